@@ -1,0 +1,10 @@
+mod Finite
+mod Dependence
+mod Files
+mod Verdicts
+mod Runs
+mod Places
+mod Sitting
+mod AnyPlaces
+mod Fresh
+mod Shown

@@ -1,0 +1,17 @@
+pub mod Chains
+pub mod Counts
+pub mod Lists
+pub mod Drafts
+pub mod Steps
+pub mod Reading
+pub mod ReadLaw
+pub mod Newest
+pub mod Committing
+pub mod Alike
+pub mod CommitLaw
+pub mod Conflict
+pub mod Unique
+pub mod Theorems
+pub mod Cases
+pub mod Short
+pub mod Facts

@@ -1,0 +1,12 @@
+pub mod Spots
+pub mod Checks
+pub mod Rows
+pub mod Puts
+pub mod RowFacts
+pub mod Splits
+pub mod SplitLaws
+pub mod SplitPuts
+pub mod Pools
+pub mod Links
+pub mod PoolFacts
+pub mod Lines

@@ -1,0 +1,49 @@
+use native.Mathlib.Omega.{arith}
+use Rattle.shelves.specs.RowMeaning.{row-meaning}
+use Rattle.shelves.proofs.Puts.{no-card, bad-stamp, no-place, granted, told-bad, told-good, version-made}
+use Rattle.shelves.proofs.RowFacts.{used-read, row-free}
+use mathlib.Core.Path.{ap, _∙_}
+use Rattle.stamps.specs.Counts.{countable, counts-at}
+use Rattle.stamps.specs.Entries.{entries}
+use Rattle.shelves.specs.Putting.{added}
+use Rattle.shelves.proofs.row.answers.RowShelfShelf.put.Needs as need
+
+pub returns-then-card-self : need.returns-then-card-self
+unfolding row-meaning
+returns-then-card-self c =
+    let e = no-card (row-meaning (c .args .self .now)) (c .args .card .0) (c .args .value) (c .args .writer .0) (c .args .counts .now) (c .if-card-self .taken) in
+    record { answer = e .answer; after = e .after }
+
+pub returns-in-rest : need.returns-in-rest
+unfolding row-meaning
+returns-in-rest c =
+    let s = c .args .self .now in
+    let xs = c .args .counts .now in
+    let bad = told-bad (countable (s .width) xs) (counts-at xs) (c .in-rest .ensures tt) in
+    let e = bad-stamp (row-meaning s) (c .args .card .0) (c .args .value) (c .args .writer .0) xs (c .if-card-self .left) bad in
+    record { answer = e .answer; after = e .after }
+
+pub returns-then-index-self : need.returns-then-index-self
+unfolding row-meaning
+returns-then-index-self c =
+    let s = c .args .self .now in
+    let n = c .args .card .0 in
+    let xs = c .args .counts .now in
+    let good = told-good (countable (s .width) xs) (entries (c .in-Some .stamp)) (counts-at xs) (c .in-Some .ensures tt) in
+    let u = used-read s n (c .if-card-self .left) (c .index .result .now) (c .index .ensures) in
+    let e = no-place (row-meaning s) n (c .args .value) (c .args .writer .0) xs (c .if-card-self .left) (good .good) (row-free s n (c .if-card-self .left) ∙ omega (arith, u, c .if-index-self .taken)) in
+    record { answer = e .answer; after = e .after }
+
+pub returns : need.returns
+unfolding row-meaning
+returns c =
+    let s = c .args .self .now in
+    let n = c .args .card .0 in
+    let xs = c .args .counts .now in
+    let good = told-good (countable (s .width) xs) (entries (c .in-Some .stamp)) (counts-at xs) (c .in-Some .ensures tt) in
+    let u = used-read s n (c .if-card-self .left) (c .index .result .now) (c .index .ensures) in
+    let left = row-free s n (c .if-card-self .left) in
+    let made = version-made (s .width) (c .args .value) (c .args .writer) (c .in-Some .stamp) xs (good .good) (good .same) in
+    let e = granted (row-meaning s) n (c .args .value) (c .args .writer .0) xs (c .if-card-self .left) (good .good) (row-meaning (c .add .last .self))
+    (omega (arith, left, u, c .if-index-self .left)) (c .add .ensures ∙ ap (added (row-meaning s) n) made) in
+    record { answer = e .answer; after = e .after }

@@ -1,0 +1,13 @@
+pub mod Meaning
+pub mod Sound
+pub mod Questions
+pub mod Refusals
+pub mod Putting
+pub mod Fresh
+pub mod Places
+pub mod Rows
+pub mod RowMeaning
+pub mod Split
+pub mod Chains
+pub mod Pools
+pub mod PoolMeaning

@@ -1,0 +1,15 @@
+pub mod Refusals
+pub mod State
+pub mod Choosing
+pub mod Calls
+pub mod Committing
+pub mod Law
+pub mod Kept
+pub mod Shelved
+pub mod Journal
+pub mod Journaled
+pub mod Watched
+pub mod Theorems
+pub mod Run
+pub mod Plain
+pub mod Promises

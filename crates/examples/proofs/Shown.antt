@@ -2,7 +2,7 @@
 --     start                       the books after set-up
 --     computed e, wanted e        what a computation gives for the example e; what it has to give for e to hold
 use mathlib.Core.Path.{_≡_, refl, sym, ap, _∙_}
-use mathlib.Core.Bool.{cond}
+use mathlib.Core.Bool.{Bool, true, false, cond}
 use mathlib.Core.List.{List, [], _∷_, map}
 use Prim.Native.Nat.{ℕ, _≤_, _%_}
 use native.Mathlib.Omega.{arith}
@@ -20,7 +20,8 @@ use Rattle.records.specs.Format.{record-size}
 use Rattle.history.specs.declared.verdict.Verdict.{Verdict}
 use Rattle.history.specs.declared.judge_fault.JudgeFault.{JudgeFault}
 use Rattle.history.specs.declared.judge_fault.JudgeFault.the-variants.{TooLong, Record, FewMarks}
-use Rattle.history.specs.Rules.{accepted, largest-file, records-in, scanned, all-ended}
+use Rattle.records.specs.Parts.{records-in}
+use Rattle.history.specs.Rules.{accepted, marked, largest-file, scanned, all-ended}
 use Rattle.transactions.specs.State.{State}
 use Rattle.transactions.specs.Calls.{after-set-up}
 use Rattle.examples.specs.Days.{Said, fresh-shelf, new-books}
@@ -54,13 +55,15 @@ nobody =
 
 -- as many marks as there are records are enough
 enough-marks : (bs : List ℕ) (n marks : ℕ) → records-in bs ≤ n → records-in bs ≤ marks → accepted bs marks ≡ accepted bs n
-enough-marks bs n marks h k =
-    ap
-    (λ few. cond (ltb largest-file (length bs)) (Err TooLong)
-    (cond (eqb (length bs % record-size) 0)
-    (cond few (Err FewMarks) (all-ended (scanned bs (records-in bs))))
-    (Err (Record (record { fault = faults.Length; place = records-in bs })))))
-    (le-ltb marks (records-in bs) k ∙ sym (le-ltb n (records-in bs) h))
+enough-marks bs n marks h k = either (ltb largest-file (length bs)) (eqb (length bs % record-size) 0)
+  where
+    either : (long whole : Bool)
+        → marked bs marks (cond long (Err TooLong) (cond whole (Ok (records-in bs)) (Err (Record (record { fault = faults.Length; place = records-in bs })))))
+        ≡ marked bs n (cond long (Err TooLong) (cond whole (Ok (records-in bs)) (Err (Record (record { fault = faults.Length; place = records-in bs })))))
+    either true whole = refl
+    either false true =
+        ap (λ few. cond few (Err FewMarks) (all-ended (scanned bs (records-in bs)))) (le-ltb marks (records-in bs) k ∙ sym (le-ltb n (records-in bs) h))
+    either false false = refl
 
 holds : (e : Example) → computed e ≡ wanted e → Holds e
 holds (file ls v) e =

@@ -15,7 +15,7 @@ returns c =
       verdict = λ ls h.
           let a = accepted_in bs (length c.args.marks.now) ls h in
           elim c.if-count-marks.branch [
-            | then-count-marks w ↦ subst (λ (v : Verdict). Judged ls v) (sym w.verdict-is) (w.of-entries-verdict.ensures ls
+            | then-count-marks w ↦ subst (λ (v : Verdict). Judged ls v) (sym w.verdict-is) (w.of_entries-verdict.ensures ls
                 (subst (λ k. Told ls (take k c.index-count.new.entries)) front ((c.index-count.ensures.indexed a.few a.few).told ls a.scan)))
             | else-count-marks w ↦ absurd (omega (arith, a.enough, c.index-count.ensures.few.0, w.if-count-marks.false))
           ];

@@ -15,15 +15,15 @@ returns c ls told =
     let f = told_facts told in
     let s = told_sound told in
     let dones = λ (o : ℕ) (lt : o < length es). c.dones-dones.ensures o (omega (arith, c.requires.1)) in
-    let cons = c.search-all-searched.result.cons in
-    let wcf = c.search-all-searched.result.wcf in
+    let cons = c.search_all-searched.result.cons in
+    let wcf = c.search_all-searched.result.wcf in
     let gs = steps Writers es (length es) in
-    let snap = subst (λ (gs : List (ℕ × ℕ)). Snapshots es gs (length es) (length es) cons) c.dependences-writers.ensures c.search-all-searched.ensures.cons in
+    let snap = subst (λ (gs : List (ℕ × ℕ)). Snapshots es gs (length es) (length es) cons) c.dependences-writers.ensures c.search_all-searched.ensures.cons in
     let conf = subst (λ (hs : List (ℕ × ℕ)). Conflicts es ds gs hs (length es) (length es) wcf) c.dependences-readers.ensures
     (subst (λ (gs : List (ℕ × ℕ)). Conflicts es ds gs (edges c.dependences-readers.result) (length es) (length es) wcf) c.dependences-writers.ensures
-    c.search-all-searched.ensures.wcf) in
+    c.search_all-searched.ensures.wcf) in
     record {
-      aca = reads_decide ls es ds f s dones c.has-dirty-read-dirty.result c.has-dirty-read-dirty.ensures;
+      aca = reads_decide ls es ds f s dones c.has_dirty_read-dirty.result c.has_dirty_read-dirty.ensures;
       cons = snapshots_decide ls es f s cons snap;
       wcf = conflicts_decide ls es ds f s dones wcf conf;
     }

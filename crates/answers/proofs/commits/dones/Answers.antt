@@ -5,7 +5,7 @@ use Rattle.digest.specs.Entries.{at, is_done}
 use Rattle.answers.specs.Questions.{done_in}
 use Rattle.answers.proofs.CommitLaws.{none_done, done_noted, done_kept}
 use Rattle.answers.proofs.commits.dones.Goals as goal
-use Rattle.answers.proofs.commits.dones.Goals.{then-is-done+then-dones-owner-eq0, else-is-done, else-is-done-via-then-is-done+else-dones-owner-eq0, else-is-done-via-else-is-done}
+use Rattle.answers.proofs.commits.dones.Goals.{then-is_done+then-dones-owner-eq0, else-is_done, else-is_done-via-then-is_done+else-dones-owner-eq0, else-is_done-via-else-is_done}
 
 pub loop-place-init : goal.loop-place-init
 loop-place-init c = ((λ o lt. none_done c.args.entries.now o lt), length-replicate {A = ℕ} 2048 0)
@@ -17,18 +17,18 @@ loop-place-preserved c =
     let ds = c.loop-place.dones in
     let inv = c.loop-place.invariant in
     let low = c.requires.0.owner n c.loop-place-test.true in
-    let kept : (xs : List ℕ) → c.if-is-done.dones ≡ xs → ((o : ℕ) → o < 2048 → get_or xs o 0 ≡ done_in es o (n + 1)) × (length xs ≡ 2048)
-    → ((o : ℕ) → o < 2048 → get_or c.if-is-done.dones o 0 ≡ done_in es o (n + 1)) × (length c.if-is-done.dones ≡ 2048) =
+    let kept : (xs : List ℕ) → c.if-is_done.dones ≡ xs → ((o : ℕ) → o < 2048 → get_or xs o 0 ≡ done_in es o (n + 1)) × (length xs ≡ 2048)
+    → ((o : ℕ) → o < 2048 → get_or c.if-is_done.dones o 0 ≡ done_in es o (n + 1)) × (length c.if-is_done.dones ≡ 2048) =
     λ xs e h. subst (λ (xs : List ℕ). ((o : ℕ) → o < 2048 → get_or xs o 0 ≡ done_in es o (n + 1)) × (length xs ≡ 2048)) (sym e) h in
-    elim c.if-is-done.branch [
-      | then-is-done+then-dones-owner-eq0 w ↦ kept (set ds (at es n).owner (n + 1)) w.dones-is (
-        (λ o lt. done_noted es ds n o (omega (arith, inv.1)) (inv.0 o lt) (sym c.is_done.ensures ∙ w.if-is-done.true) w.if-dones-owner-eq0.true),
+    elim c.if-is_done.branch [
+      | then-is_done+then-dones-owner-eq0 w ↦ kept (set ds (at es n).owner (n + 1)) w.dones-is (
+        (λ o lt. done_noted es ds n o (omega (arith, inv.1)) (inv.0 o lt) (sym c.is_done.ensures ∙ w.if-is_done.true) w.if-dones-owner-eq0.true),
         length-set ds (at es n).owner (n + 1) ∙ inv.1,
       )
-      | else-is-done w ↦
-          let no-news : (is_done (at es n).kind && eqb (get_or ds (at es n).owner 0) 0) ≡ false = elim w.else-is-done.branch [
-            | else-is-done-via-then-is-done+else-dones-owner-eq0 w' ↦ grind (arith, nat_tests)
-            | else-is-done-via-else-is-done w' ↦ grind (arith, nat_tests)
+      | else-is_done w ↦
+          let no-news : (is_done (at es n).kind && eqb (get_or ds (at es n).owner 0) 0) ≡ false = elim w.else-is_done.branch [
+            | else-is_done-via-then-is_done+else-dones-owner-eq0 w' ↦ grind (arith, nat_tests)
+            | else-is_done-via-else-is_done w' ↦ grind (arith, nat_tests)
           ] in
           kept ds w.dones-is ((λ o lt. done_kept es ds n o (inv.0 o lt) no-news), inv.1)
     ]

@@ -58,7 +58,7 @@ returns-then-clashes c =
     let o = c.args.owner in
     let k = c.loop-link.link - 1 in
     let lt : k < length es = omega (arith, c.loop-link.invariant.0) in
-    sym (some_hit (λ j. is_writ (at es j).kind && eqb (at es j).owner o && clashes es ds fs bs j) (length es) k lt (let same : (at es k).owner ≡ o = sym (c.requires.listed.own.by k lt) ∙ c.loop-link.invariant.1 k (omega arith) in and_from _ _ (and_from _ _ (sym c.is_writ.ensures ∙ c.if-is-writ.true) (eq-eqb _ _ same)) (sym c.clashes.ensures ∙ c.if-clashes.true)))
+    sym (some_hit (λ j. is_writ (at es j).kind && eqb (at es j).owner o && clashes es ds fs bs j) (length es) k lt (let same : (at es k).owner ≡ o = sym (c.requires.listed.own.by k lt) ∙ c.loop-link.invariant.1 k (omega arith) in and_from _ _ (and_from _ _ (sym c.is_writ.ensures ∙ c.if-is_writ.true) (eq-eqb _ _ same)) (sym c.clashes.ensures ∙ c.if-clashes.true)))
 
 pub returns : goal.returns
 returns c =

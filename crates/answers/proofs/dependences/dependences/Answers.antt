@@ -5,7 +5,7 @@ use Rattle.digest.specs.Entries.{at}
 use Rattle.answers.specs.Questions.{source, steps, step_of}
 use Rattle.answers.proofs.CommitLaws.{no_steps, steps_yes, steps_no, step_taken, source_low}
 use Rattle.answers.proofs.dependences.dependences.Goals as goal
-use Rattle.answers.proofs.dependences.dependences.Goals.{then-is-step+in-Writers, then-is-step+in-Readers, else-is-step}
+use Rattle.answers.proofs.dependences.dependences.Goals.{then-is_step+in-Writers, then-is_step+in-Readers, else-is_step}
 
 pub loop-entry-init : goal.loop-entry-init
 loop-entry-init c = c.new-graph.ensures ∙ no_steps c.args.towards c.args.entries.now
@@ -18,20 +18,20 @@ loop-entry-preserved c =
     let lt : n < length es = c.loop-entry-test.true in
     let small : n < 2048 = omega (arith, c.requires.1) in
     let owner = c.requires.0.owner n lt in
-    let kept : (g : Graph) → c.if-is-step.graph ≡ g → edges g ≡ steps d es (n + 1) → edges c.if-is-step.graph ≡ steps d es (n + 1) =
+    let kept : (g : Graph) → c.if-is_step.graph ≡ g → edges g ≡ steps d es (n + 1) → edges c.if-is_step.graph ≡ steps d es (n + 1) =
     λ g e h. subst (λ g. edges g ≡ steps d es (n + 1)) (sym e) h in
-    elim c.if-is-step.branch [
-      | then-is-step+in-Writers w ↦
-          let step = sym c.is_step.ensures ∙ w.if-is-step.true in
+    elim c.if-is_step.branch [
+      | then-is_step+in-Writers w ↦
+          let step = sym c.is_step.ensures ∙ w.if-is_step.true in
           let low = source_low es c.requires.0 n lt step in
           kept w.add.new.self w.graph-is
           (step_taken d es n (at es n).owner (source es (at es n)) c.loop-entry.graph w.add.new.self w.add.result c.loop-entry.invariant small
           (omega arith) (omega arith) step (ap (λ t. step_of t es (at es n)) w.in-Writers.is) w.add.ensures.added w.add.ensures.taken)
-      | then-is-step+in-Readers w ↦
-          let step = sym c.is_step.ensures ∙ w.if-is-step.true in
+      | then-is_step+in-Readers w ↦
+          let step = sym c.is_step.ensures ∙ w.if-is_step.true in
           let low = source_low es c.requires.0 n lt step in
           kept w.add-in-Readers.new.self w.graph-is
           (step_taken d es n (source es (at es n)) (at es n).owner c.loop-entry.graph w.add-in-Readers.new.self w.add-in-Readers.result c.loop-entry.invariant small
           (omega arith) (omega arith) step (ap (λ t. step_of t es (at es n)) w.in-Readers.is) w.add-in-Readers.ensures.added w.add-in-Readers.ensures.taken)
-      | else-is-step w ↦ kept c.loop-entry.graph w.graph-is (c.loop-entry.invariant ∙ sym (steps_no d es n (sym c.is_step.ensures ∙ w.if-is-step.false)))
+      | else-is_step w ↦ kept c.loop-entry.graph w.graph-is (c.loop-entry.invariant ∙ sym (steps_no d es n (sym c.is_step.ensures ∙ w.if-is_step.false)))
     ]

@@ -43,6 +43,6 @@ loop-place-preserved c =
     record {
       own = one_more own_node es n (at es n).owner c.loop-place.own c.add.new.self c.add.result c.loop-place.invariant.own small (omega arith) refl
           c.add.ensures.added c.add.ensures.taken;
-      writs = one_more writ_node es n c.node-of.result c.loop-place.writs c.add-in-loop-place.new.self c.add-in-loop-place.result c.loop-place.invariant.writs small
-          (subst (λ k. k < 2048) (sym c.node-of.ensures) (node_small (at es n))) c.node-of.ensures c.add-in-loop-place.ensures.added c.add-in-loop-place.ensures.taken;
+      writs = one_more writ_node es n c.node_of.result c.loop-place.writs c.add-in-loop-place.new.self c.add-in-loop-place.result c.loop-place.invariant.writs small
+          (subst (λ k. k < 2048) (sym c.node_of.ensures) (node_small (at es n))) c.node_of.ensures c.add-in-loop-place.ensures.added c.add-in-loop-place.ensures.taken;
     }

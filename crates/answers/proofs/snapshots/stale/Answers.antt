@@ -52,7 +52,7 @@ returns-then-outdated c =
     let o = c.args.owner in
     let k = c.loop-link.link - 1 in
     let lt : k < length es = omega (arith, c.loop-link.invariant.0) in
-    sym (some_hit (λ j. is_read (at es j).kind && eqb (at es j).owner o && outdated es ms (at es j)) (length es) k lt (let same : (at es k).owner ≡ o = sym (c.requires.listed.own.by k lt) ∙ c.loop-link.invariant.1 k (omega arith) in and_from _ _ (and_from _ _ (sym c.is-read.ensures ∙ c.if-is-read.true) (eq-eqb _ _ same)) (sym c.outdated.ensures ∙ c.if-outdated.true)))
+    sym (some_hit (λ j. is_read (at es j).kind && eqb (at es j).owner o && outdated es ms (at es j)) (length es) k lt (let same : (at es k).owner ≡ o = sym (c.requires.listed.own.by k lt) ∙ c.loop-link.invariant.1 k (omega arith) in and_from _ _ (and_from _ _ (sym c.is_read.ensures ∙ c.if-is_read.true) (eq-eqb _ _ same)) (sym c.outdated.ensures ∙ c.if-outdated.true)))
 
 pub returns : goal.returns
 returns c =

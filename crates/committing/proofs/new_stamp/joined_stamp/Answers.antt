@@ -13,7 +13,7 @@ loop-read-init g c = λ y. omega (arith, ap (λ f. f y) c.zero-stamp.ensures)
 pub loop-read-preserved : goal.loop-read-preserved
 loop-read-preserved g c =
     join_more (g.S.Shelf.meaning c.args.shelf.now) c.args.reads.now c.loop-read.read-index none c.loop-read-test.true (entries c.loop-read.stamp)
-    (entries c.join-read.new.stamp) c.join-read.ensures c.loop-read.invariant
+    (entries c.join_read.new.stamp) c.join_read.ensures c.loop-read.invariant
 
 pub returns : goal.returns
 returns g c =

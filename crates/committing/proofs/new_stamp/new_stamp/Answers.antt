@@ -13,4 +13,4 @@ returns g c =
     let m = g.S.Shelf.meaning c.args.shelf.now in
     let ds = map drafting c.args.drafts.now in
     let f = greatest (stamps_of m) (map reading c.args.reads.now) in
-    c.bump-drafts.ensures ∙ ap (λ q. bump_all q ds) c.joined-stamp-stamp.ensures ∙ fun_ext (λ y. bumped_once room ds f y (omega arith) c.requires)
+    c.bump_drafts.ensures ∙ ap (λ q. bump_all q ds) c.joined_stamp-stamp.ensures ∙ fun_ext (λ y. bumped_once room ds f y (omega arith) c.requires)

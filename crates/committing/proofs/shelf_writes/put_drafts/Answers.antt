@@ -13,8 +13,8 @@ use Rattle.committing.proofs.shelf_writes.put_drafts.Goals as goal
 abbrev none : DraftEntry
 none = record { card = record { 0 = 0 }; value = record { first = 0; second = 0 } }
 
-pub new-stamp-requires : goal.new-stamp-requires
-new-stamp-requires g c =
+pub new_stamp-requires : goal.new_stamp-requires
+new_stamp-requires g c =
     let m = g.S.Shelf.meaning c.args.shelf.now in
     apart_wider m.cards room (draft_cards (map drafting c.args.drafts.now)) (g.met.S.Shelf.sound c.args.shelf.now).few c.requires.listed
 
@@ -22,14 +22,14 @@ pub bounds-drafts-next : goal.bounds-drafts-next
 bounds-drafts-next g c =
     (draft_stops (g.S.Shelf.meaning c.args.shelf.now).cards c.args.drafts.now c.loop-next.from c.in-Some.next none c.requires.listed c.in-Some.ensures).place
 
-pub offset-bounds-drafts-next : goal.offset-bounds-drafts-next
-offset-bounds-drafts-next g c =
+pub offset_bounds-drafts-next : goal.offset_bounds-drafts-next
+offset_bounds-drafts-next g c =
     let h : c.in-Some.next.place < length c.args.drafts.now =
     (draft_stops (g.S.Shelf.meaning c.args.shelf.now).cards c.args.drafts.now c.loop-next.from c.in-Some.next none c.requires.listed c.in-Some.ensures).place in
     search rules
 
-pub overflow-add-from : goal.overflow-add-from
-overflow-add-from g c =
+pub overflow_add-from : goal.overflow_add-from
+overflow_add-from g c =
     let m = g.S.Shelf.meaning c.args.shelf.now in
     let stop = draft_stops m.cards c.args.drafts.now c.loop-next.from c.in-Some.next none c.requires.listed c.in-Some.ensures in
     omega (arith, stop.low, (g.met.S.Shelf.sound c.args.shelf.now).few)
@@ -59,7 +59,7 @@ loop-next-preserved g c =
     let wide : m.width ≤ length xs = omega (arith, c.list-counts.ensures.full, s.narrow) in (
       put_step m s o c.requires.spare from b.number e.value (take m.width xs) M (g.S.Shelf.meaning c.put.new.self) stop.low stop.there
           (front_fits m.width xs wide c.list-counts.ensures.small)
-          (front_counts m.width xs _ (c.list-counts.ensures.same ∙ c.new-stamp.ensures))
+          (front_counts m.width xs _ (c.list-counts.ensures.same ∙ c.new_stamp.ensures))
           (sym (stop.words blank)) c.loop-next.invariant.0
           (put_still m s o c.requires.spare from b.number stop.onward stop.between) now
           ∙ ap (put_cards m o) (sym (add-one b.number)),
@@ -73,4 +73,4 @@ returns g c =
     let es = c.args.drafts.now in
     let o = opening c.args.writer.0 (map reading c.args.reads.now) (map drafting es) in
     c.loop-next.invariant.0
-    ∙ sym (put_still m s o c.requires.spare c.loop-next.from m.cards c.loop-next.invariant.1 (λ k h h'. drafts_ended es c.loop-next.from c.in-default.ensures k h))
+    ∙ sym (put_still m s o c.requires.spare c.loop-next.from m.cards c.loop-next.invariant.1 (λ k h h'. drafts_ended es c.loop-next.from c.in_default.ensures k h))

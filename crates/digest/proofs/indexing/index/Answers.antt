@@ -22,8 +22,8 @@ ended bs cs i n j e f h = subst (λ (xs : List ℕ). Ended xs n j) e (subst (λ 
 pub loop-part-init : goal.loop-part-init
 loop-part-init c = (c.new-reader.ensures.bytes, c.new-reader.ensures.place, omega arith, omega arith, omega arith, refl, subst (λ (xs : List (ℕ × ℕ)). Linked tx_node (take 0 c.args.entries.now) 0 xs) (sym c.new-links.ensures) (linked_none tx_node (take 0 c.args.entries.now)), indexed_none c.args.file.now)
 
-pub shape-of-entries-then-count-entries : goal.shape-of-entries-then-count-entries
-shape-of-entries-then-count-entries c = c.loop-part.invariant.5
+pub shape-of_entries-then-count-entries : goal.shape-of_entries-then-count-entries
+shape-of_entries-then-count-entries c = c.loop-part.invariant.5
 
 pub returns-then-count-entries : goal.returns-then-count-entries
 returns-then-count-entries c =
@@ -31,24 +31,24 @@ returns-then-count-entries c =
     let h = handed _ _ _ _ _ _ inv.0 inv.1 c.in-Some.ensures.cases in
     record { few = (inv.2, (omega (arith, inv.3, inv.5), inv.4)); sound = inv.7.sound; indexed = λ few room. absurd (elim c.then-count-entries.either [ inl full ↦ omega (arith, h.whole, inv.5) | inr (some, full) ↦ omega (arith, h.whole) ]) }
 
-pub shape-of-entries-in-default-decode : goal.shape-of-entries-in-default-decode
-shape-of-entries-in-default-decode c = c.loop-part.invariant.5
+pub shape-of_entries-in_default-decode : goal.shape-of_entries-in_default-decode
+shape-of_entries-in_default-decode c = c.loop-part.invariant.5
 
-pub returns-in-default-decode : goal.returns-in-default-decode
-returns-in-default-decode c =
+pub returns-in_default-decode : goal.returns-in_default-decode
+returns-in_default-decode c =
     let inv = c.loop-part.invariant in
     let h = handed _ _ _ _ _ _ inv.0 inv.1 c.in-Some.ensures.cases in
     record {
       few = (inv.2, (omega (arith, inv.3, inv.5), inv.4));
       sound = inv.7.sound;
       indexed = λ few room. indexed_cut c.args.file.now c.loop-part.count (records_in c.args.file.now) _ h.whole
-          (λ l e. c.in-default-decode.not-Ok l (c.decode.ensures.value ∙ ap decoded h.is ∙ e)) inv.7;
+          (λ l e. c.in_default-decode.not-Ok l (c.decode.ensures.value ∙ ap decoded h.is ∙ e)) inv.7;
     }
 
 pub returns : goal.returns
 returns c =
     let inv = c.loop-part.invariant in
-    let e = ended _ _ _ _ _ inv.0 inv.1 c.in-default.ensures.cases in
+    let e = ended _ _ _ _ _ inv.0 inv.1 c.in_default.ensures.cases in
     let all : c.loop-part.count ≡ records_in c.args.file.now = omega (arith, inv.2, e.past) in
     record {
       few = (inv.2, (omega (arith, inv.3, inv.5), inv.4));
@@ -56,8 +56,8 @@ returns c =
       indexed = λ few room. subst (λ k. Indexed c.args.file.now k (take c.loop-part.count c.loop-part.entries)) all inv.7;
     }
 
-pub entry-of-entry-requires : goal.entry-of-entry-requires
-entry-of-entry-requires c =
+pub entry_of-entry-requires : goal.entry_of-entry-requires
+entry_of-entry-requires c =
     let inv = c.loop-part.invariant in
     let n = c.loop-part.count in
     let es = c.loop-part.entries in
@@ -84,17 +84,17 @@ loop-part-preserved c =
     let linked : length gs ≡ n = inv.6.each in
     let took : c.add.result ≡ true = c.add.ensures.taken ∙ grind (arith, nat_tests) in
     let grown : edges c.add.new.self ≡ gs ++ (t % 2048, n) ∷ [] = c.add.ensures.added ∙ ap (λ (b : Bool). cond b (gs ++ (t % 2048, n) ∷ []) gs) took in
-    let new : c.entry-of-entry.result ≡ entry_of (take n es) c.in-Ok.line =
-    c.entry-of-entry.ensures ∙ ap (λ k. entry_of (take k es) c.in-Ok.line) front in
-    let whole : take (n + 1) (set es n c.entry-of-entry.result) ≡ take n es ++ entry_of (take n es) c.in-Ok.line ∷ [] =
-    take_more_set es n c.entry-of-entry.result lt ∙ ap (λ (x : Entry). take n es ++ x ∷ []) new in (
+    let new : c.entry_of-entry.result ≡ entry_of (take n es) c.in-Ok.line =
+    c.entry_of-entry.ensures ∙ ap (λ k. entry_of (take k es) c.in-Ok.line) front in
+    let whole : take (n + 1) (set es n c.entry_of-entry.result) ≡ take n es ++ entry_of (take n es) c.in-Ok.line ∷ [] =
+    take_more_set es n c.entry_of-entry.result lt ∙ ap (λ (x : Entry). take n es ++ x ∷ []) new in (
       c.in-Some.ensures.same ∙ inv.0,
       h.onward ∙ sym (add-one n),
       omega (arith, h.whole),
-      omega (arith, length-set es n c.entry-of-entry.result),
+      omega (arith, length-set es n c.entry_of-entry.result),
       omega arith,
-      length-set es n c.entry-of-entry.result ∙ inv.5,
-      subst (λ (xs : List (ℕ × ℕ)). Linked tx_node (take (n + 1) (set es n c.entry-of-entry.result)) (n + 1) xs) (sym grown)
+      length-set es n c.entry_of-entry.result ∙ inv.5,
+      subst (λ (xs : List (ℕ × ℕ)). Linked tx_node (take (n + 1) (set es n c.entry_of-entry.result)) (n + 1) xs) (sym grown)
           (subst (λ (xs : List Entry). Linked tx_node xs (n + 1) (gs ++ (t % 2048, n) ∷ [])) (sym whole)
           (subst (λ k. Linked tx_node (take n es ++ entry_of (take n es) c.in-Ok.line ∷ []) k (gs ++ (t % 2048, n) ∷ [])) (sym (add-one n))
           (linked_snoc tx_node (take n es) (entry_of (take n es) c.in-Ok.line) n n gs (length-take-le n es (omega arith)) inv.6))),
@@ -102,5 +102,5 @@ loop-part-preserved c =
           (subst (λ k. Indexed c.args.file.now k (take n es ++ entry_of (take n es) c.in-Ok.line ∷ [])) (sym (add-one n)) more),
     )
 
-pub shape-of-entries : goal.shape-of-entries
-shape-of-entries c = c.loop-part.invariant.5
+pub shape-of_entries : goal.shape-of_entries
+shape-of_entries c = c.loop-part.invariant.5

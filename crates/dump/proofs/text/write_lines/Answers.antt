@@ -9,29 +9,29 @@ use Rattle.dump.specs.Ends.{judged_at}
 use Rattle.dump.proofs.Onward.{total_more, onward, stops, read_there}
 use Rattle.dump.proofs.text.write_lines.Goals as goal
 
-pub returns-in-err-line : goal.returns-in-err-line
-returns-in-err-line c =
+pub returns-in_err-line : goal.returns-in_err-line
+returns-in_err-line c =
     let bs = c.args.file.now in
     let i = c.loop-part.place in
-    let f = c.in-err-line.field-0.0 in
+    let f = c.in_err-line.field-0.0 in
     let handed = c.in-Some.ensures.cases in
     let within : i < records_in bs = omega (arith, ap records_in c.loop-part.invariant.0) in
     let e : judged_at (placed_at i (decoded (part bs i))) ≡ Err f =
-    read_there bs i c.loop-part.reader.bytes.now c.loop-part.reader.place c.in-Some.part.now c.line-at.result (Err f) c.loop-part.invariant.0 c.loop-part.invariant.1 handed.is c.line-at.ensures c.in-err-line.was in
+    read_there bs i c.loop-part.reader.bytes.now c.loop-part.reader.place c.in-Some.part.now c.line_at.result (Err f) c.loop-part.invariant.0 c.loop-part.invariant.1 handed.is c.line_at.ensures c.in_err-line.was in
     let done = stops bs i (records_in bs) c.loop-part.counts within f (string_bytes c.loop-part.text) _ e c.loop-part.invariant.5 in
-    let p = err_from_is_err_and c.from-residual-in-err-line.result c.from-residual-in-err-line.ensures.1 in
+    let p = err_from_is_err_and c.from-residual-in_err-line.result c.from-residual-in_err-line.ensures.1 in
     rw (p.1, p.2) done
 
 pub loop-part-preserved : goal.loop-part-preserved
 loop-part-preserved c =
     let bs = c.args.file.now in
     let i = c.loop-part.place in
-    let l = c.in-ok-line.line in
+    let l = c.in_ok-line.line in
     let handed = c.in-Some.ensures.cases in
     let within : i < records_in bs = omega (arith, ap records_in c.loop-part.invariant.0) in
     let e : judged_at (placed_at i (decoded (part bs i))) ≡ Ok l =
-    read_there bs i c.loop-part.reader.bytes.now c.loop-part.reader.place c.in-Some.part.now c.line-at.result (Ok l) c.loop-part.invariant.0 c.loop-part.invariant.1 handed.is c.line-at.ensures c.in-ok-line.was in
-    let w : string_bytes c.writeln.new.self ≡ string_bytes c.loop-part.text ++ with_newline (line_text l) = c.in-ok-writeln.ensures.bytes in
+    read_there bs i c.loop-part.reader.bytes.now c.loop-part.reader.place c.in-Some.part.now c.line_at.result (Ok l) c.loop-part.invariant.0 c.loop-part.invariant.1 handed.is c.line_at.ensures c.in_ok-line.was in
+    let w : string_bytes c.writeln.new.self ≡ string_bytes c.loop-part.text ++ with_newline (line_text l) = c.in_ok-writeln.ensures.bytes in
     let more = onward bs i (records_in bs) c.loop-part.counts within l c.add.new.self (string_bytes c.loop-part.text) (string_bytes c.writeln.new.self) _ e c.add.ensures w c.loop-part.invariant.5 in
     let count : total c.add.new.self ≡ i + 1 = ap total c.add.ensures ∙ total_more c.loop-part.counts l.kind ∙ ap (λ (n : ℕ). n + 1) c.loop-part.invariant.2 in
     (c.in-Some.ensures.same ∙ c.loop-part.invariant.0, omega arith, count, omega arith, c.loop-part.invariant.4, more)

@@ -19,7 +19,7 @@ returns c =
     let long : length c.fill.new.self ≡ length c.args.marks.now = c.fill.ensures.len in
     record {
       answer = answered_by (accepted bs (length c.args.marks.now)) c.judged.result
-          (ap (λ n. answered (accepted bs n)) (sym long) ∙ sym c.in-ok-accept.ensures)
+          (ap (λ n. answered (accepted bs n)) (sym long) ∙ sym c.in_ok-accept.ensures)
           (λ ls e. c.judged.ensures.verdict ls (ap (accepted bs) long ∙ e));
       clear = c.judged.ensures.clear ∙ ap (λ n. replicate {A = ℕ} n 0) long;
     }

@@ -11,21 +11,21 @@ use Rattle.journals.specs.Journals.{Log, log_of, with_line, with_lines}
 use Rattle.journals.proofs.BlockLines.{reads_are, writs_are}
 use Rattle.journals.proofs.blocks.log_block.Goals as goal
 
-pub log-each-requires : goal.log-each-requires
-log-each-requires g c =
+pub log_each-requires : goal.log_each-requires
+log_each-requires g c =
     record { numbered = λ e. refl; listed = ap (apart room) (sym (reading_cards c.args.reads.now)) ∙ c.requires.read; space = omega (arith, c.requires.space) }
 
-pub log-each-requires-2 : goal.log-each-requires-2
-log-each-requires-2 g c =
+pub log_each-requires-2 : goal.log_each-requires-2
+log_each-requires-2 g c =
     record {
       numbered = λ e. refl;
       listed = ap (apart room) (sym (drafting_cards c.args.drafts.now)) ∙ c.requires.drafted;
-      space = omega (arith, c.log-each.ensures.many, c.log-each.ensures.size, c.requires.space);
+      space = omega (arith, c.log_each.ensures.many, c.log_each.ensures.size, c.requires.space);
     }
 
 pub add-requires : goal.add-requires
 add-requires g c =
-    omega (arith, c.log-each.ensures.many, c.log-each.ensures.size, c.log-each-2.ensures.many, c.log-each-2.ensures.size, c.requires.space)
+    omega (arith, c.log_each.ensures.many, c.log_each.ensures.size, c.log_each-2.ensures.many, c.log_each-2.ensures.size, c.requires.space)
 
 pub returns : goal.returns
 returns g c = λ n read drafted.
@@ -38,9 +38,9 @@ returns g c = λ n read drafted.
     let w = writ_lines o n in
     let end : Line = line kinds.Done c.args.number.0 0 0 no_words in
     let made : List Line → Log = λ ls. record { size = old.size; lines = ls } in
-    let first = c.log-each.ensures.lines n (ap (apart n) (sym (reading_cards rs)) ∙ read) ∙ ap (with_lines old) (reads_are m c.args.number.0 rs (map drafting ds) n) in
+    let first = c.log_each.ensures.lines n (ap (apart n) (sym (reading_cards rs)) ∙ read) ∙ ap (with_lines old) (reads_are m c.args.number.0 rs (map drafting ds) n) in
     let second =
-    c.log-each-2.ensures.lines n (ap (apart n) (sym (drafting_cards ds)) ∙ drafted)
-    ∙ ap (with_lines (log_of c.log-each.new.journal)) (writs_are m c.args.number.0 (map reading rs) ds n) in
-    c.add.ensures ∙ ap (with_line (log_of c.log-each-2.new.journal)) c.done.ensures ∙ ap (λ l. with_line l end) (second ∙ ap (λ l. with_lines l w) first)
+    c.log_each-2.ensures.lines n (ap (apart n) (sym (drafting_cards ds)) ∙ drafted)
+    ∙ ap (with_lines (log_of c.log_each.new.journal)) (writs_are m c.args.number.0 (map reading rs) ds n) in
+    c.add.ensures ∙ ap (with_line (log_of c.log_each-2.new.journal)) c.done.ensures ∙ ap (λ l. with_line l end) (second ∙ ap (λ l. with_lines l w) first)
     ∙ ap made (append_assoc (old.lines ++ r) w (end ∷ []) ∙ append_assoc old.lines r (w ++ (end ∷ [])))

@@ -15,4 +15,4 @@ printed (Ok ls) r bs e is = (e.0, is ∙ ap answer_line e.1, e.2)
 pub returns : goal.returns
 returns c =
     printed (accepted c.args.file.now (length c.args.marks.now)) c.answer-answer.result _ c.answer-answer.ensures
-    (c.in-ok-write-answer.ensures ∙ ap (λ xs. xs ++ answer_line c.answer-answer.result) c.new-text.ensures.bytes)
+    (c.in_ok-write_answer.ensures ∙ ap (λ xs. xs ++ answer_line c.answer-answer.result) c.new-text.ensures.bytes)

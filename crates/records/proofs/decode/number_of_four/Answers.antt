@@ -8,6 +8,6 @@ returns c =
     let bs = c.args.bytes.now in
     let at = c.args.at in
     let first : get_or bs (at + 0) 0 ≡ get_or bs at 0 = ap (λ (i : ℕ). get_or bs i 0) (add-zero at) in
-    let value : c.from-be-bytes.result ≡ number_at bs at 4 = omega arith in
-    let back = bytes_of_number bs at 4 (omega arith) (λ i. (c.type-inv.bytes i).fits) in
+    let value : c.from_be_bytes.result ≡ number_at bs at 4 = omega arith in
+    let back = bytes_of_number bs at 4 (omega arith) (λ i. (c.type_inv.bytes i).fits) in
     record { value = value; back = ap (bytes_of 4) value ∙ back }

@@ -3,4 +3,4 @@ use Rattle.records.proofs.Bytes.{number_back}
 use Rattle.records.proofs.encode.bytes_of_four.Goals as goal
 
 pub returns : goal.returns
-returns c = record { value = c.to-be-bytes.ensures; back = number_back 4 c.args.number (omega arith) }
+returns c = record { value = c.to_be_bytes.ensures; back = number_back 4 c.args.number (omega arith) }

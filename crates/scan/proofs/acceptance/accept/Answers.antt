@@ -4,7 +4,7 @@ use Rattle.scan.specs.Scanning.{answered}
 use Rattle.scan.proofs.Accepting.{bad_size, few_marks, bad_records, no_end, all_good}
 use Rattle.scan.proofs.acceptance.accept.Goals as goal
 
-pub returns-in-err-count : goal.returns-in-err-count
-returns-in-err-count c =
+pub returns-in_err-count : goal.returns-in_err-count
+returns-in_err-count c =
     let p = err_from_is_err_and c.from-residual.result c.from-residual.ensures.1 in
-    rw (p.1, p.2) (sym (ap answered (bad_size c.args.file.now c.args.marks c.in-err-count.field-0.0 (sym c.in-err-count.ensures))))
+    rw (p.1, p.2) (sym (ap answered (bad_size c.args.file.now c.args.marks c.in_err-count.field-0.0 (sym c.in_err-count.ensures))))

@@ -19,7 +19,7 @@ returns-then-not-told c =
     let (l, is) = read_as_line (decoded (part bs i)) (c.requires.good i c.loop-place-test.true) in
     let from : i ≡ 0 + i = omega arith in
     let open' : some (ends l.transaction.0) all ≡ false =
-    ap (λ (t : TxNo). some (ends t.0) all) (c.transaction-at.ensures l is) ∙ sym c.told.ensures ∙ c.if-not-told.true in
+    ap (λ (t : TxNo). some (ends t.0) all) (c.transaction_at.ensures l is) ∙ sym c.told.ensures ∙ c.if-not-told.true in
     ap (λ n. Some n) from ∙ sym (unended_at all all i 0 l c.loop-place.invariant (nth_lines bs (records_in bs) i l c.requires.good c.loop-place-test.true is) open')
 
 pub loop-place-preserved : goal.loop-place-preserved
@@ -29,7 +29,7 @@ loop-place-preserved c =
     let i = c.loop-place.place in
     let (l, is) = read_as_line (decoded (part bs i)) (c.requires.good i c.loop-place-test.true) in
     let ended : some (ends l.transaction.0) all ≡ true =
-    ap (λ (t : TxNo). some (ends t.0) all) (c.transaction-at.ensures l is) ∙ sym c.told.ensures ∙ c.if-not-told.false in
+    ap (λ (t : TxNo). some (ends t.0) all) (c.transaction_at.ensures l is) ∙ sym c.told.ensures ∙ c.if-not-told.false in
     ended_more all all i l c.loop-place.invariant (nth_lines bs (records_in bs) i l c.requires.good c.loop-place-test.true is) ended
 
 pub returns : goal.returns

@@ -17,15 +17,15 @@ told bs ws n m j p r same at h e =
     let here : part ws m ≡ part bs n = ap (λ xs. part xs m) same ∙ ap (λ k. part bs k) at in
     (subst (λ k. k < records_in bs) at within, h.onward ∙ ap suc at, e ∙ ap (λ q. answered (after_record n (lines_of bs n) (decoded q))) (h.is ∙ here))
 
-pub returns-in-err-test-record : goal.returns-in-err-test-record
-returns-in-err-test-record c =
+pub returns-in_err-test_record : goal.returns-in_err-test_record
+returns-in_err-test_record c =
     let bs = c.args.file.now in
     let n = c.loop-part.place in
     let p = err_from_is_err_and c.from-residual.result c.from-residual.ensures.1 in
-    let t = told bs c.loop-part.reader.bytes.now n c.loop-part.reader.place c.next.new.self.place c.in-Some.part.now c.test-record.result
-    c.loop-part.invariant.0 c.loop-part.invariant.1 c.in-Some.ensures.cases c.test-record.ensures in
+    let t = told bs c.loop-part.reader.bytes.now n c.loop-part.reader.place c.next.new.self.place c.in-Some.part.now c.test_record.result
+    c.loop-part.invariant.0 c.loop-part.invariant.1 c.in-Some.ensures.cases c.test_record.ensures in
     rw (p.1, p.2) (record {
-      answer = sym (refused_at bs n (records_in bs) c.in-err-test-record.field-0.0 t.0 c.loop-part.invariant.3 (sym t.2 ∙ c.in-err-test-record.was));
+      answer = sym (refused_at bs n (records_in bs) c.in_err-test_record.field-0.0 t.0 c.loop-part.invariant.3 (sym t.2 ∙ c.in_err-test_record.was));
       good = tt;
       seen = tt;
     })
@@ -34,12 +34,12 @@ pub loop-part-preserved : goal.loop-part-preserved
 loop-part-preserved c =
     let bs = c.args.file.now in
     let n = c.loop-part.place in
-    let t = told bs c.loop-part.reader.bytes.now n c.loop-part.reader.place c.next.new.self.place c.in-Some.part.now c.test-record.result
-    c.loop-part.invariant.0 c.loop-part.invariant.1 c.in-Some.ensures.cases c.test-record.ensures in
+    let t = told bs c.loop-part.reader.bytes.now n c.loop-part.reader.place c.next.new.self.place c.in-Some.part.now c.test_record.result
+    c.loop-part.invariant.0 c.loop-part.invariant.1 c.in-Some.ensures.cases c.test_record.ensures in
     let on : suc n ≡ c.place-place.result = sym t.1 ∙ sym c.place-place.ensures in (
       c.in-Some.ensures.same ∙ c.loop-part.invariant.0,
       sym c.place-place.ensures,
       subst (λ k. k ≤ records_in bs) on (omega (arith, t.0)),
-      subst (λ k. Scanned bs k) on (one_scanned bs n c.loop-part.invariant.3 (sym t.2 ∙ c.in-ok-test-record.was)),
+      subst (λ k. Scanned bs k) on (one_scanned bs n c.loop-part.invariant.3 (sym t.2 ∙ c.in_ok-test_record.was)),
       subst (λ k. Seen bs k (edges c.note.new.seen)) on c.note.ensures,
     )

@@ -14,16 +14,16 @@ loop-link-init c =
     let n = c.args.count in
     let t = c.args.by.0 in
     let long : length es ≡ n = c.requires.seen.each in
-    let last : Last es (node t) (length es) c.newest_link.result = subst (λ (m : ℕ). Last es m (length es) c.newest_link.result) c.node-of.ensures c.newest_link.ensures in
+    let last : Last es (node t) (length es) c.newest_link.result = subst (λ (m : ℕ). Last es m (length es) c.newest_link.result) c.node_of.ensures c.newest_link.ensures in
     (omega (arith, last.below), last.here, λ k l le lt e. unlinked bs n es c.args.deed t k l c.requires.seen lt (last.above k le (omega arith)) e)
 
-pub returns-then-tells-at : goal.returns-then-tells-at
-returns-then-tells-at c =
+pub returns-then-tells_at : goal.returns-then-tells_at
+returns-then-tells_at c =
     let bs = c.args.file.now in
     let k = c.loop-link.link - 1 in
     let lt : k < c.args.count = omega (arith, c.loop-link.invariant.0) in
     let (l, is) = read_as_line (decoded (part bs k)) (c.requires.good k lt) in
-    sym (some_here (deed_told c.args.deed c.args.by.0) bs k c.args.count l lt is (sym (c.tells-at.ensures l is) ∙ c.if-tells-at.true))
+    sym (some_here (deed_told c.args.deed c.args.by.0) bs k c.args.count l lt is (sym (c.tells_at.ensures l is) ∙ c.if-tells_at.true))
 
 pub loop-link-smaller : goal.loop-link-smaller
 loop-link-smaller c =
@@ -43,7 +43,7 @@ loop-link-preserved c =
     let last : Last es (node t) k c.older-link.result = subst (λ (m : ℕ). Last es m k c.older-link.result) (c.loop-link.invariant.1 k here) (c.older-link.ensures within) in (
       omega (arith, last.below),
       last.here,
-      none_onward bs n es c.args.deed t k c.older-link.result c.requires.seen lt last (λ l is. sym (c.tells-at.ensures l is) ∙ c.if-tells-at.false)
+      none_onward bs n es c.args.deed t k c.older-link.result c.requires.seen lt last (λ l is. sym (c.tells_at.ensures l is) ∙ c.if-tells_at.false)
           (subst (λ (m : ℕ). NoneAmong (deed_told c.args.deed t) bs m n) here c.loop-link.invariant.2),
     )
 

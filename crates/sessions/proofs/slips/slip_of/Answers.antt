@@ -2,8 +2,8 @@ use Rattle.std.proofs.Common.{rules}
 use Rattle.sessions.proofs.Holding.{found, none_held}
 use Rattle.sessions.proofs.slips.slip_of.Goals as goal
 
-pub offset-bounds-slips-place : goal.offset-bounds-slips-place
-offset-bounds-slips-place c =
+pub offset_bounds-slips-place : goal.offset_bounds-slips-place
+offset_bounds-slips-place c =
     let lt = (found c.args.slips.now c.args.number c.in-Some.place (record { number = record { 0 = 0 } }) c.in-Some.ensures).within in
     search rules
 

@@ -8,14 +8,14 @@ use Rattle.sessions.proofs.slips.take_slip.Goals as goal
 pub remove-requires : goal.remove-requires
 remove-requires c =
     let xs = vec_items c.args.slips.now in
-    let at = subst (λ ys. Some c.in-Some.place ≡ last_at (is_for c.args.number.0) ys) c.as-slice.ensures.value c.in-Some.ensures in
+    let at = subst (λ ys. Some c.in-Some.place ≡ last_at (is_for c.args.number.0) ys) c.as_slice.ensures.value c.in-Some.ensures in
     let f = found xs c.args.number c.in-Some.place (record { number = record { 0 = 0 } }) at in
     omega (arith, f.within, c.args.slips.now.ok.0)
 
 pub returns-in-Some : goal.returns-in-Some
 returns-in-Some c =
     let xs = vec_items c.args.slips.now in
-    let at = subst (λ ys. Some c.in-Some.place ≡ last_at (is_for c.args.number.0) ys) c.as-slice.ensures.value c.in-Some.ensures in
+    let at = subst (λ ys. Some c.in-Some.place ≡ last_at (is_for c.args.number.0) ys) c.as_slice.ensures.value c.in-Some.ensures in
     let f = found xs c.args.number c.in-Some.place c.remove.result at in
     record {
       taken = (f.held, ap (λ (s : Slip). s.number) c.remove.ensures.value ∙ f.its);
@@ -26,5 +26,5 @@ returns-in-Some c =
 pub returns-in-None : goal.returns-in-None
 returns-in-None c =
     let xs = vec_items c.args.slips.now in
-    let at = subst (λ ys. None ≡ last_at (is_for c.args.number.0) ys) c.as-slice.ensures.value c.in-None.ensures in
+    let at = subst (λ ys. None ≡ last_at (is_for c.args.number.0) ys) c.as_slice.ensures.value c.in-None.ensures in
     record { taken = none_held xs c.args.number.0 at; rest = ap (less xs) at; room = tt }

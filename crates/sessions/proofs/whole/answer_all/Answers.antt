@@ -16,8 +16,8 @@ loop-command-preserved g c =
     ran_more (g.S.Shelf.meaning c.args.shelf.now) (g.S.Shelf.meaning c.loop-command.shelf) (g.S.Shelf.meaning c.answer.new.shelf)
     (kept c.args.session.now.catalogue) (kept c.loop-command.session.catalogue) (kept c.answer.new.self.catalogue) c.args.script.now c.loop-command.command-index
     (vec_items c.loop-command.answers) (vec_items c.push.new.self) (vec_items c.loop-command.session.slips) (vec_items c.answer.new.self.slips)
-    _ c.in-ok-answer.answer c.loop-command-test.true (g.met.S.Shelf.sound c.loop-command.shelf) c.loop-command.invariant c.in-ok-answer.ensures
-    c.in-ok-push.ensures.items
+    _ c.in_ok-answer.answer c.loop-command-test.true (g.met.S.Shelf.sound c.loop-command.shelf) c.loop-command.invariant c.in_ok-answer.ensures
+    c.in_ok-push.ensures.items
 
 pub returns : goal.returns
 returns g c =

@@ -8,8 +8,8 @@ use Rattle.sessions.proofs.whole.run.Goals as goal
 pub returns : goal.returns
 returns g c =
     let m = g.S.Shelf.meaning c.args.shelf.now in
-    let n = g.S.Shelf.meaning c.answer-all-answers.new.shelf in
-    let done = all_done vec_items m n (kept c.new-session.result.catalogue) (kept c.answer-all-answers.new.session.catalogue) c.args.script.now
-    (vec_items c.answer-all-answers.new.session.slips) c.answer-all-answers.result c.answer-all-answers.ensures in
-    let exact = subst (λ b. IfOk c.answer-all-answers.result (λ v. DoneExactly m b c.args.script.now (vec_items v) n)) c.new-session.ensures.books done in
-    record { exact = exact; law = all_lawful m _ vec_items c.args.script.now n c.answer-all-answers.result exact }
+    let n = g.S.Shelf.meaning c.answer_all-answers.new.shelf in
+    let done = all_done vec_items m n (kept c.new-session.result.catalogue) (kept c.answer_all-answers.new.session.catalogue) c.args.script.now
+    (vec_items c.answer_all-answers.new.session.slips) c.answer_all-answers.result c.answer_all-answers.ensures in
+    let exact = subst (λ b. IfOk c.answer_all-answers.result (λ v. DoneExactly m b c.args.script.now (vec_items v) n)) c.new-session.ensures.books done in
+    record { exact = exact; law = all_lawful m _ vec_items c.args.script.now n c.answer_all-answers.result exact }

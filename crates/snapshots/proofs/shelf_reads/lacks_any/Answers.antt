@@ -5,15 +5,15 @@ use Rattle.snapshots.proofs.shelf_reads.lacks_any.Goals as goal
 abbrev none : ReadEntry
 none = record { card = record { 0 = 0 }; version = record { 0 = 0 } }
 
-pub returns-then-is-none : goal.returns-then-is-none
-returns-then-is-none g c =
+pub returns-then-is_none : goal.returns-then-is_none
+returns-then-is_none g c =
     lacks_found (g.S.Shelf.meaning c.args.shelf.now) c.args.reads.now c.loop-entry.entry-index none c.loop-entry-test.true
-    c.writer.result c.is-none.result c.writer.ensures c.is-none.ensures c.if-is-none.true c.loop-entry.invariant
+    c.writer.result c.is_none.result c.writer.ensures c.is_none.ensures c.if-is_none.true c.loop-entry.invariant
 
 pub loop-entry-preserved : goal.loop-entry-preserved
 loop-entry-preserved g c =
     lacks_passed (g.S.Shelf.meaning c.args.shelf.now) c.args.reads.now c.loop-entry.entry-index none c.loop-entry-test.true
-    c.writer.result c.is-none.result c.writer.ensures c.is-none.ensures c.if-is-none.false c.loop-entry.invariant
+    c.writer.result c.is_none.result c.writer.ensures c.is_none.ensures c.if-is_none.false c.loop-entry.invariant
 
 pub returns : goal.returns
 returns g c =

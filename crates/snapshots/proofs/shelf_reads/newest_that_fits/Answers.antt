@@ -14,8 +14,8 @@ versions-preserved g c =
     let es = c.args.reads.now in
     let x = c.args.card.0 in
     let n = c.loop-entry.n in
-    let fails = fits_failed m es c.loop-entry.entry-index none c.loop-entry-test.true x n c.fits-entry.result c.fits-entry.ensures
-    c.loop-entry.invariant.1 c.if-not-fits-entry.true in
+    let fails = fits_failed m es c.loop-entry.entry-index none c.loop-entry-test.true x n c.fits_entry.result c.fits_entry.ensures
+    c.loop-entry.invariant.1 c.if-not-fits_entry.true in
     sym (fit_below m (map reading es) x n c.if-n-eq0.false fails) ∙ ap (newest_fit m (map reading es) x) c.loop-entry.invariant.0 ∙ c.versions.invariant
 
 pub versions-smaller : goal.versions-smaller
@@ -25,7 +25,7 @@ pub loop-entry-preserved : goal.loop-entry-preserved
 loop-entry-preserved g c = (
   c.loop-entry.invariant.0,
   fits_passed (g.S.Shelf.meaning c.args.shelf.now) c.args.reads.now c.loop-entry.entry-index none c.loop-entry-test.true c.args.card.0
-      c.loop-entry.n c.fits-entry.result c.fits-entry.ensures c.loop-entry.invariant.1 c.if-not-fits-entry.false,
+      c.loop-entry.n c.fits_entry.result c.fits_entry.ensures c.loop-entry.invariant.1 c.if-not-fits_entry.false,
 )
 
 pub returns-then-n-eq0 : goal.returns-then-n-eq0
@@ -34,8 +34,8 @@ returns-then-n-eq0 g c =
     let es = c.args.reads.now in
     let x = c.args.card.0 in
     let n = c.loop-entry.n in
-    let fails = fits_failed m es c.loop-entry.entry-index none c.loop-entry-test.true x n c.fits-entry.result c.fits-entry.ensures
-    c.loop-entry.invariant.1 c.if-not-fits-entry.true in
+    let fails = fits_failed m es c.loop-entry.entry-index none c.loop-entry-test.true x n c.fits_entry.result c.fits_entry.ensures
+    c.loop-entry.invariant.1 c.if-not-fits_entry.true in
     sym (fit_none m (map reading es) x n c.if-n-eq0.true fails) ∙ ap (newest_fit m (map reading es) x) c.loop-entry.invariant.0 ∙ c.versions.invariant
 
 pub returns-after-loop-entry : goal.returns-after-loop-entry

@@ -10,15 +10,15 @@ use Rattle.tables.specs.Tables.{at}
 use Rattle.books.proofs.CommitCases.{commit_some, shelf_none, shelf_some, journal_none, journal_some}
 use Rattle.books.proofs.books.Books.carry_out.Goals as goal
 
-pub returns-then-is-empty : goal.returns-then-is-empty
-returns-then-is-empty g c =
+pub returns-then-is_empty : goal.returns-then-is_empty
+returns-then-is_empty g c =
     let b = state_of c.args.self.now in
     let m = g.S.Shelf.meaning c.args.shelf.now in
     let p = c.args.place in
     let o = at b.places p in
-    let es = c.drafts-at.result.now in
-    let many : length o.drafts ≡ length es = ap length (sym c.drafts-at.ensures) ∙ length-map es drafting in
-    let none : length o.drafts ≡ 0 = omega (arith, many, eqb-true (length es) 0 (sym c.is-empty.ensures ∙ c.if-is-empty.true)) in
+    let es = c.drafts_at.result.now in
+    let many : length o.drafts ≡ length es = ap length (sym c.drafts_at.ensures) ∙ length-map es drafting in
+    let none : length o.drafts ≡ 0 = omega (arith, many, eqb-true (length es) 0 (sym c.is_empty.ensures ∙ c.if-is_empty.true)) in
     record {
       shelf = sym (shelf_none b m o o.drafts none);
       books =
@@ -26,16 +26,16 @@ returns-then-is-empty g c =
           ∙ ap (with_journal (with_places b (set b.places p None))) (sym (journal_none b m o o.drafts none));
     }
 
-pub write-out-requires : goal.write-out-requires
-write-out-requires g c =
+pub write_out-requires : goal.write_out-requires
+write_out-requires g c =
     let b = state_of c.args.self.now in
     let m = g.S.Shelf.meaning c.args.shelf.now in
     let p = c.args.place in
     let o = at b.places p in
-    let es = c.drafts-at.result.now in
-    let many : length o.drafts ≡ length es = ap length (sym c.drafts-at.ensures) ∙ length-map es drafting in
+    let es = c.drafts_at.result.now in
+    let many : length o.drafts ≡ length es = ap length (sym c.drafts_at.ensures) ∙ length-map es drafting in
     let some : length o.drafts ≡ 0 → ⊥ =
-    λ (e : length o.drafts ≡ 0). eqb-false (length es) 0 (sym c.is-empty.ensures ∙ c.if-is-empty.false) (omega (arith, many)) in
+    λ (e : length o.drafts ≡ 0). eqb-false (length es) 0 (sym c.is_empty.ensures ∙ c.if-is_empty.false) (omega (arith, many)) in
     record { taken = c.requires.taken; number = c.requires.number; granted = sym (commit_some b m o o.drafts some) ∙ c.requires.granted }
 
 pub returns : goal.returns
@@ -44,15 +44,15 @@ returns g c =
     let m = g.S.Shelf.meaning c.args.shelf.now in
     let p = c.args.place in
     let o = at b.places p in
-    let es = c.drafts-at.result.now in
-    let many : length o.drafts ≡ length es = ap length (sym c.drafts-at.ensures) ∙ length-map es drafting in
+    let es = c.drafts_at.result.now in
+    let many : length o.drafts ≡ length es = ap length (sym c.drafts_at.ensures) ∙ length-map es drafting in
     let some : length o.drafts ≡ 0 → ⊥ =
-    λ (e : length o.drafts ≡ 0). eqb-false (length es) 0 (sym c.is-empty.ensures ∙ c.if-is-empty.false) (omega (arith, many)) in
-    let w = c.write-out.new.self in
+    λ (e : length o.drafts ≡ 0). eqb-false (length es) 0 (sym c.is_empty.ensures ∙ c.if-is_empty.false) (omega (arith, many)) in
+    let w = c.write_out.new.self in
     record {
-      shelf = c.write-out.ensures.shelf ∙ sym (shelf_some b m o o.drafts some);
+      shelf = c.write_out.ensures.shelf ∙ sym (shelf_some b m o o.drafts some);
       books =
           ap (λ t. state_with t w.width w.given (log_of w.journal)) c.release-2.ensures
-          ∙ ap (λ s. with_places s (set s.places p None)) c.write-out.ensures.books
+          ∙ ap (λ s. with_places s (set s.places p None)) c.write_out.ensures.books
           ∙ ap (with_journal (with_places b (set b.places p None))) (sym (journal_some b m o o.drafts some));
     }

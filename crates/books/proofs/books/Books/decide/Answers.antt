@@ -9,85 +9,85 @@ use Rattle.tables.specs.Tables.{at}
 use Rattle.books.proofs.CommitCases.{commit_none, commit_some, decide_other, decide_conflict, decide_crowded, decide_full, decide_granted}
 use Rattle.books.proofs.books.Books.decide.Goals as goal
 
-pub returns-then-is-empty : goal.returns-then-is-empty
-returns-then-is-empty g c =
+pub returns-then-is_empty : goal.returns-then-is_empty
+returns-then-is_empty g c =
     let b = state_of c.args.self.now in
     let m = g.S.Shelf.meaning c.args.shelf.now in
     let o = at b.places c.args.place in
-    let es = c.drafts-at-drafts.result.now in
-    let are = c.drafts-at-drafts.ensures in
+    let es = c.drafts_at-drafts.result.now in
+    let are = c.drafts_at-drafts.ensures in
     let many : length o.drafts ≡ length es = ap length (sym are) ∙ length-map es drafting in
-    sym (commit_none b m o o.drafts (omega (arith, many, eqb-true (length es) 0 (sym c.is-empty.ensures ∙ c.if-is-empty.true))))
+    sym (commit_none b m o o.drafts (omega (arith, many, eqb-true (length es) 0 (sym c.is_empty.ensures ∙ c.if-is_empty.true))))
 
-pub returns-then-is-other : goal.returns-then-is-other
-returns-then-is-other g c =
+pub returns-then-is_other : goal.returns-then-is_other
+returns-then-is_other g c =
     let b = state_of c.args.self.now in
     let m = g.S.Shelf.meaning c.args.shelf.now in
     let o = at b.places c.args.place in
-    let es = c.drafts-at-drafts.result.now in
-    let are = c.drafts-at-drafts.ensures in
+    let es = c.drafts_at-drafts.result.now in
+    let are = c.drafts_at-drafts.ensures in
     let many : length o.drafts ≡ length es = ap length (sym are) ∙ length-map es drafting in
     let some : length o.drafts ≡ 0 → ⊥ =
-    λ (e : length o.drafts ≡ 0). eqb-false (length es) 0 (sym c.is-empty.ensures ∙ c.if-is-empty.false) (omega (arith, many)) in
-    sym (commit_some b m o o.drafts some ∙ decide_other b m o (sym c.is-other.ensures ∙ c.if-is-other.true))
+    λ (e : length o.drafts ≡ 0). eqb-false (length es) 0 (sym c.is_empty.ensures ∙ c.if-is_empty.false) (omega (arith, many)) in
+    sym (commit_some b m o o.drafts some ∙ decide_other b m o (sym c.is_other.ensures ∙ c.if-is_other.true))
 
-pub returns-then-is-outdated : goal.returns-then-is-outdated
-returns-then-is-outdated g c =
+pub returns-then-is_outdated : goal.returns-then-is_outdated
+returns-then-is_outdated g c =
     let b = state_of c.args.self.now in
     let m = g.S.Shelf.meaning c.args.shelf.now in
     let o = at b.places c.args.place in
-    let es = c.drafts-at-drafts.result.now in
-    let are = c.drafts-at-drafts.ensures in
+    let es = c.drafts_at-drafts.result.now in
+    let are = c.drafts_at-drafts.ensures in
     let many : length o.drafts ≡ length es = ap length (sym are) ∙ length-map es drafting in
     let some : length o.drafts ≡ 0 → ⊥ =
-    λ (e : length o.drafts ≡ 0). eqb-false (length es) 0 (sym c.is-empty.ensures ∙ c.if-is-empty.false) (omega (arith, many)) in
+    λ (e : length o.drafts ≡ 0). eqb-false (length es) 0 (sym c.is_empty.ensures ∙ c.if-is_empty.false) (omega (arith, many)) in
     sym (commit_some b m o o.drafts some
-    ∙ decide_conflict b m o (sym c.is-other.ensures ∙ c.if-is-other.false) (sym c.is-outdated.ensures ∙ c.if-is-outdated.true))
+    ∙ decide_conflict b m o (sym c.is_other.ensures ∙ c.if-is_other.false) (sym c.is_outdated.ensures ∙ c.if-is_outdated.true))
 
-pub returns-then-is-crowded : goal.returns-then-is-crowded
-returns-then-is-crowded g c =
+pub returns-then-is_crowded : goal.returns-then-is_crowded
+returns-then-is_crowded g c =
     let b = state_of c.args.self.now in
     let m = g.S.Shelf.meaning c.args.shelf.now in
     let o = at b.places c.args.place in
-    let es = c.drafts-at-drafts.result.now in
-    let are = c.drafts-at-drafts.ensures in
+    let es = c.drafts_at-drafts.result.now in
+    let are = c.drafts_at-drafts.ensures in
     let many : length o.drafts ≡ length es = ap length (sym are) ∙ length-map es drafting in
     let some : length o.drafts ≡ 0 → ⊥ =
-    λ (e : length o.drafts ≡ 0). eqb-false (length es) 0 (sym c.is-empty.ensures ∙ c.if-is-empty.false) (omega (arith, many)) in
+    λ (e : length o.drafts ≡ 0). eqb-false (length es) 0 (sym c.is_empty.ensures ∙ c.if-is_empty.false) (omega (arith, many)) in
     sym (commit_some b m o o.drafts some
-    ∙ decide_crowded b m o (sym c.is-other.ensures ∙ c.if-is-other.false) (sym c.is-outdated.ensures ∙ c.if-is-outdated.false)
-    (ap (crowded m) (sym are) ∙ sym c.is-crowded.ensures ∙ c.if-is-crowded.true))
+    ∙ decide_crowded b m o (sym c.is_other.ensures ∙ c.if-is_other.false) (sym c.is_outdated.ensures ∙ c.if-is_outdated.false)
+    (ap (crowded m) (sym are) ∙ sym c.is_crowded.ensures ∙ c.if-is_crowded.true))
 
-pub returns-then-room-reads-at : goal.returns-then-room-reads-at
-returns-then-room-reads-at g c =
+pub returns-then-room-reads_at : goal.returns-then-room-reads_at
+returns-then-room-reads_at g c =
     let b = state_of c.args.self.now in
     let m = g.S.Shelf.meaning c.args.shelf.now in
     let o = at b.places c.args.place in
-    let es = c.drafts-at-drafts.result.now in
-    let are = c.drafts-at-drafts.ensures in
+    let es = c.drafts_at-drafts.result.now in
+    let are = c.drafts_at-drafts.ensures in
     let many : length o.drafts ≡ length es = ap length (sym are) ∙ length-map es drafting in
     let some : length o.drafts ≡ 0 → ⊥ =
-    λ (e : length o.drafts ≡ 0). eqb-false (length es) 0 (sym c.is-empty.ensures ∙ c.if-is-empty.false) (omega (arith, many)) in
-    let rs = c.reads-at.result.now in
-    let read : length o.reads ≡ length rs = ap length (sym c.reads-at.ensures) ∙ length-map rs reading in
+    λ (e : length o.drafts ≡ 0). eqb-false (length es) 0 (sym c.is_empty.ensures ∙ c.if-is_empty.false) (omega (arith, many)) in
+    let rs = c.reads_at.result.now in
+    let read : length o.reads ≡ length rs = ap length (sym c.reads_at.ensures) ∙ length-map rs reading in
     sym (commit_some b m o o.drafts some
-    ∙ decide_full b m o (sym c.is-other.ensures ∙ c.if-is-other.false) (sym c.is-outdated.ensures ∙ c.if-is-outdated.false)
-    (ap (crowded m) (sym are) ∙ sym c.is-crowded.ensures ∙ c.if-is-crowded.false)
-    (lt-ltb (room b) (block_length o) (omega (arith, c.if-room-reads-at.true, c.room.ensures, many, read))))
+    ∙ decide_full b m o (sym c.is_other.ensures ∙ c.if-is_other.false) (sym c.is_outdated.ensures ∙ c.if-is_outdated.false)
+    (ap (crowded m) (sym are) ∙ sym c.is_crowded.ensures ∙ c.if-is_crowded.false)
+    (lt-ltb (room b) (block_length o) (omega (arith, c.if-room-reads_at.true, c.room.ensures, many, read))))
 
 pub returns : goal.returns
 returns g c =
     let b = state_of c.args.self.now in
     let m = g.S.Shelf.meaning c.args.shelf.now in
     let o = at b.places c.args.place in
-    let es = c.drafts-at-drafts.result.now in
-    let are = c.drafts-at-drafts.ensures in
+    let es = c.drafts_at-drafts.result.now in
+    let are = c.drafts_at-drafts.ensures in
     let many : length o.drafts ≡ length es = ap length (sym are) ∙ length-map es drafting in
     let some : length o.drafts ≡ 0 → ⊥ =
-    λ (e : length o.drafts ≡ 0). eqb-false (length es) 0 (sym c.is-empty.ensures ∙ c.if-is-empty.false) (omega (arith, many)) in
-    let rs = c.reads-at.result.now in
-    let read : length o.reads ≡ length rs = ap length (sym c.reads-at.ensures) ∙ length-map rs reading in
+    λ (e : length o.drafts ≡ 0). eqb-false (length es) 0 (sym c.is_empty.ensures ∙ c.if-is_empty.false) (omega (arith, many)) in
+    let rs = c.reads_at.result.now in
+    let read : length o.reads ≡ length rs = ap length (sym c.reads_at.ensures) ∙ length-map rs reading in
     sym (commit_some b m o o.drafts some
-    ∙ decide_granted b m o (sym c.is-other.ensures ∙ c.if-is-other.false) (sym c.is-outdated.ensures ∙ c.if-is-outdated.false)
-    (ap (crowded m) (sym are) ∙ sym c.is-crowded.ensures ∙ c.if-is-crowded.false)
-    (le-ltb (room b) (block_length o) (omega (arith, c.if-room-reads-at.false, c.room.ensures, many, read))))
+    ∙ decide_granted b m o (sym c.is_other.ensures ∙ c.if-is_other.false) (sym c.is_outdated.ensures ∙ c.if-is_outdated.false)
+    (ap (crowded m) (sym are) ∙ sym c.is_crowded.ensures ∙ c.if-is_crowded.false)
+    (le-ltb (room b) (block_length o) (omega (arith, c.if-room-reads_at.false, c.room.ensures, many, read))))

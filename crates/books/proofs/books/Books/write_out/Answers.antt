@@ -12,8 +12,8 @@ use Rattle.tables.proofs.Entering.{neat_at}
 use Rattle.entries.proofs.Walks.{apart_wider}
 use Rattle.books.proofs.books.Books.write_out.Goals as goal
 
-pub log-block-requires : goal.log-block-requires
-log-block-requires g c =
+pub log_block-requires : goal.log_block-requires
+log_block-requires g c =
     let t = c.args.self.now.table in
     let b = state_of c.args.self.now in
     let m = g.S.Shelf.meaning c.args.shelf.now in
@@ -21,18 +21,18 @@ log-block-requires g c =
     let o = at b.places p in
     let passed = decide_passed b m o c.requires.granted in
     let neat = neat_at t p in
-    let rs = c.reads-at-reads.ensures in
-    let ds = c.drafts-at-drafts.ensures in
+    let rs = c.reads_at-reads.ensures in
+    let ds = c.drafts_at-drafts.ensures in
     let modest : t.cards ≤ room = omega (arith, same_cards b m o passed.0, (g.met.S.Shelf.sound c.args.shelf.now).few) in
     record {
       read = ap (λ l. apart room (read_cards l)) rs ∙ apart_wider t.cards room (read_cards o.reads) modest neat.0;
       drafted = ap (λ l. apart room (draft_cards l)) ds ∙ apart_wider t.cards room (draft_cards o.drafts) modest neat.1;
       space =
-          omega (arith, passed.2, ap length rs, ap length ds, length-map c.reads-at-reads.result.now reading, length-map c.drafts-at-drafts.result.now drafting);
+          omega (arith, passed.2, ap length rs, ap length ds, length-map c.reads_at-reads.result.now reading, length-map c.drafts_at-drafts.result.now drafting);
     }
 
-pub put-drafts-requires : goal.put-drafts-requires
-put-drafts-requires g c =
+pub put_drafts-requires : goal.put_drafts-requires
+put_drafts-requires g c =
     let t = c.args.self.now.table in
     let b = state_of c.args.self.now in
     let m = g.S.Shelf.meaning c.args.shelf.now in
@@ -40,8 +40,8 @@ put-drafts-requires g c =
     let o = at b.places p in
     let passed = decide_passed b m o c.requires.granted in
     let neat = neat_at t p in
-    let rs = c.reads-at-reads.ensures in
-    let ds = c.drafts-at-drafts.ensures in
+    let rs = c.reads_at-reads.ensures in
+    let ds = c.drafts_at-drafts.ensures in
     record {
       listed = ap (λ l. apart m.cards (draft_cards l)) ds ∙ ap (λ n. apart n (draft_cards o.drafts)) (same_cards b m o passed.0) ∙ neat.1;
       spare = ap (crowded m) ds ∙ passed.1;
@@ -56,13 +56,13 @@ returns g c =
     let o = at b.places p in
     let passed = decide_passed b m o c.requires.granted in
     let neat = neat_at t p in
-    let rs = c.reads-at-reads.ensures in
-    let ds = c.drafts-at-drafts.ensures in
-    let is = opening_is o c.args.number.0 (map reading c.reads-at-reads.result.now) (map drafting c.drafts-at-drafts.result.now) c.requires.number rs ds in
+    let rs = c.reads_at-reads.ensures in
+    let ds = c.drafts_at-drafts.ensures in
+    let is = opening_is o c.args.number.0 (map reading c.reads_at-reads.result.now) (map drafting c.drafts_at-drafts.result.now) c.requires.number rs ds in
     record {
-      shelf = c.put-drafts.ensures ∙ ap (λ q. put_cards m q m.cards) is ∙ ap (put_cards m o) (same_cards b m o passed.0);
+      shelf = c.put_drafts.ensures ∙ ap (λ q. put_cards m q m.cards) is ∙ ap (put_cards m o) (same_cards b m o passed.0);
       books =
           ap (state_with (table_of t) c.args.self.now.width c.args.self.now.given)
-          (c.log-block.ensures t.cards (ap (λ l. apart t.cards (read_cards l)) rs ∙ neat.0) (ap (λ l. apart t.cards (draft_cards l)) ds ∙ neat.1)
+          (c.log_block.ensures t.cards (ap (λ l. apart t.cards (read_cards l)) rs ∙ neat.0) (ap (λ l. apart t.cards (draft_cards l)) ds ∙ neat.1)
           ∙ ap (λ q. with_lines (log_of c.args.self.now.journal) (block m q t.cards)) is);
     }

@@ -6,21 +6,21 @@ use Rattle.pools.specs.Links.{all_known, all_newest, chain_new}
 use Rattle.pools.specs.PoolFacts.{newest_there, pool_with}
 use Rattle.pools.proofs.pool.PoolShelf.add.Goals as goal
 
-pub jump-after-jump-requires : goal.jump-after-jump-requires
-jump-after-jump-requires c =
+pub jump_after-jump-requires : goal.jump_after-jump-requires
+jump_after-jump-requires c =
     let s = c.args.self.now in
     let top = c.requires.newest in
     subst (Leads (vec_items s.chains) s.used c.args.card.0) (sym top.told) (newest_there s c.args.card.0 top.listed).led
 
-pub invariant-of-self : goal.invariant-of-self
-invariant-of-self c =
+pub invariant_of-self : goal.invariant_of-self
+invariant_of-self c =
     let s = c.args.self.now in
     let d = c.args.card.0 in
     let cs = vec_items s.chains in
     let ls = vec_items s.newest in
     let n = s.used in
     let l = c.args.older in
-    let x : Chain = record { card = c.args.card; older = l; jump = c.jump-after-jump.result } in
+    let x : Chain = record { card = c.args.card; older = l; jump = c.jump_after-jump.result } in
     let listed = c.requires.newest.listed in
     let is = c.requires.newest.told in
     let top = newest_there s d listed in
@@ -28,7 +28,7 @@ invariant-of-self c =
     let room : d < length ls = omega (arith, listed, s.listed, s.newest.ok.0) in
     let told : l.number ≡ tally (owner cs) d n = ap (λ y. y.number) is ∙ top.told in
     let led : Leads cs n d l = subst (Leads cs n d) (sym is) top.led in
-    let jump = c.jump-after-jump.ensures in
+    let jump = c.jump_after-jump.ensures in
     let all = all_known cs n x long told led jump.told jump.led s.linked in
     let newest = all_newest cs n x long told led jump.told jump.led ls s.cards room s.current in
     let more : suc n ≡ n + 1 = omega arith in
@@ -70,11 +70,11 @@ invariant-of-self c =
 pub returns : goal.returns
 returns c =
     let s = c.args.self.now in
-    let x : Chain = record { card = c.args.card; older = c.args.older; jump = c.jump-after-jump.result } in
+    let x : Chain = record { card = c.args.card; older = c.args.older; jump = c.jump_after-jump.result } in
     let long : s.used < length (vec_items s.chains) = omega (arith, c.requires.free, s.chained, s.chains.ok.0) in
     record {
       linked =
           chain_new (vec_items s.chains) s.used x long
-          ∙ ap (λ (j : Link). record { card = c.args.card; older = c.args.older; jump = j }) c.jump-after-jump.ensures.chosen;
+          ∙ ap (λ (j : Link). record { card = c.args.card; older = c.args.older; jump = j }) c.jump_after-jump.ensures.chosen;
       meant = pool_with s _ x c.args.written c.args.stamp c.requires.newest.listed c.requires.free refl refl refl (omega arith) refl c.write.ensures;
     }

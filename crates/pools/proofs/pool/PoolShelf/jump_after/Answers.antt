@@ -6,10 +6,10 @@ use Rattle.pools.proofs.pool.PoolShelf.jump_after.Goals as goal
 pub returns-then-older-far : goal.returns-then-older-far
 returns-then-older-far c =
     let l = c.args.older in
-    let far = c.jump-from-far.result in
-    let farther = c.jump-from-farther.result in
-    let one = c.jump-from-far.ensures in
-    let two = c.jump-from-farther.ensures in
+    let far = c.jump_from-far.result in
+    let farther = c.jump_from-farther.result in
+    let one = c.jump_from-far.ensures in
+    let two = c.jump_from-farther.ensures in
     let both = two.chosen ∙ ap (jump_from (vec_items c.args.self.now.chains)) one.chosen in
     record {
       led = two.led;

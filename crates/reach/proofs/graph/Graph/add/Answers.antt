@@ -12,8 +12,8 @@ returns-then-count-ge-PLACES c =
     let len = length-take-le g.count g.edges le in
     record { added = refl; taken = grind (arith, nat_tests) }
 
-pub invariant-of-self : goal.invariant-of-self
-invariant-of-self c =
+pub invariant_of-self : goal.invariant_of-self
+invariant_of-self c =
     let g = c.args.self.now in
     let es : g.count < length g.edges = omega arith in
     let ns : places ≤ length g.newest = omega arith in

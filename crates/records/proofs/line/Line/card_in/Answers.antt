@@ -21,7 +21,7 @@ returns-then-bytes-ne-RECORD-SIZE c =
 pub returns : goal.returns
 returns c =
     let bs = c.args.bytes.now in
-    let here : ◌≡◌ {A = CardNo} (record { 0 = c.number-of-four.result }) (card_in bs) = λ i. record { 0 = c.number-of-four.ensures.value i } in
+    let here : ◌≡◌ {A = CardNo} (record { 0 = c.number_of_four.result }) (card_in bs) = λ i. record { 0 = c.number_of_four.ensures.value i } in
     record {
       value = search rules;
       same = λ l e. ap (λ (x : CardNo). Some x) (here ∙ (glanced bs l e).card);

@@ -7,7 +7,7 @@ returns-in-None c = record {
   value = search rules;
   back = (
     refl,
-    fields_back c.args.rest.now c.number-of-four.result c.number-of-four-2.result c.number-of-four-3.result c.number-of-eight.result c.number-of-eight-2.result c.requires
-        c.number-of-four.ensures.back c.number-of-four-2.ensures.back c.number-of-four-3.ensures.back c.number-of-eight.ensures.back c.number-of-eight-2.ensures.back,
+    fields_back c.args.rest.now c.number_of_four.result c.number_of_four-2.result c.number_of_four-3.result c.number_of_eight.result c.number_of_eight-2.result c.requires
+        c.number_of_four.ensures.back c.number_of_four-2.ensures.back c.number_of_four-3.ensures.back c.number_of_eight.ensures.back c.number_of_eight-2.ensures.back,
   );
 }

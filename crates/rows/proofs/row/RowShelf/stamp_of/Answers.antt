@@ -6,5 +6,5 @@ pub returns : goal.returns
 unfolding row_meaning
 returns c =
     let s = c.args.self.now in
-    let t = told s.width c.args.counts.now c.stamp-from.result s.narrow c.stamp-from.ensures in
+    let t = told s.width c.args.counts.now c.stamp_from.result s.narrow c.stamp_from.ensures in
     record { told = t.told; kept = t.kept }

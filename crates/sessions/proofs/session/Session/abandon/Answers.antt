@@ -5,5 +5,5 @@ use Rattle.sessions.proofs.session.Session.abandon.Goals as goal
 
 pub returns-in-None : goal.returns-in-None
 returns-in-None g c =
-    no_abandon (g.S.Shelf.meaning c.args.shelf.now) (kept c.args.self.now.catalogue) (vec_items c.args.self.now.slips) (vec_items c.take-slip.new.slips)
-    c.args.number c.in-None.ensures.taken c.take-slip.ensures.rest
+    no_abandon (g.S.Shelf.meaning c.args.shelf.now) (kept c.args.self.now.catalogue) (vec_items c.args.self.now.slips) (vec_items c.take_slip.new.slips)
+    c.args.number c.in-None.ensures.taken c.take_slip.ensures.rest

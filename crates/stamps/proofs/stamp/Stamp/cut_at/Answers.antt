@@ -13,10 +13,10 @@ left xs w i k full end =
     (λ (past : i ≤ k). let none = get_or_past xs k 0 (omega arith) in grind (arith, nat_tests, none))
     (cases_lt k i)
 
-pub invariant-of-result : goal.invariant-of-result
-invariant-of-result c =
+pub invariant_of-result : goal.invariant_of-result
+invariant_of-result c =
     let s = c.args.self.now in
-    (c.loop-i.invariant.0, (λ k. grind (arith, nat_tests, c.loop-i.invariant.1 k, s.small k), tt))
+    record { full = c.loop-i.invariant.0; small = λ k. grind (arith, nat_tests, c.loop-i.invariant.1 k, s.small k) }
 
 pub returns : goal.returns
 returns c =

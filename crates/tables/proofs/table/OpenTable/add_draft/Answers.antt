@@ -6,14 +6,14 @@ use Rattle.tables.proofs.EnteringDrafts.{added_place, added_others, added_stands
 use Rattle.tables.proofs.Standing.{taken_low, drafts_end}
 use Rattle.tables.proofs.table.OpenTable.add_draft.Goals as goal
 
-pub overflow-mul-place : goal.overflow-mul-place
-overflow-mul-place c =
+pub overflow_mul-place : goal.overflow_mul-place
+overflow_mul-place c =
     let t = c.args.self.now in
     let low = taken_low t c.args.place c.requires.taken in
     omega (arith, drafts_end t c.args.place 0 low (omega arith), t.drafts.ok.1, t.drafts.small)
 
-pub overflow-add-place : goal.overflow-add-place
-overflow-add-place c =
+pub overflow_add-place : goal.overflow_add-place
+overflow_add-place c =
     let t = c.args.self.now in
     let p = c.args.place in
     let k = c.in-Some.taken in
@@ -32,8 +32,8 @@ index-mut-requires c =
     let room = drafts_many t p k low is in
     omega (arith, drafts_end t p (k.drafts + 1) low (omega (arith, room, c.requires.few)))
 
-pub overflow-add-self : goal.overflow-add-self
-overflow-add-self c =
+pub overflow_add-self : goal.overflow_add-self
+overflow_add-self c =
     let t = c.args.self.now in
     let p = c.args.place in
     let k = c.in-Some.taken in
@@ -45,8 +45,8 @@ overflow-add-self c =
 pub index-mut-requires-2 : goal.index-mut-requires-2
 index-mut-requires-2 c = omega (arith, taken_low c.args.self.now c.args.place c.requires.taken, c.args.self.now.listed)
 
-pub invariant-of-self : goal.invariant-of-self
-invariant-of-self c =
+pub invariant_of-self : goal.invariant_of-self
+invariant_of-self c =
     let t = c.args.self.now in
     let p = c.args.place in
     let k = c.in-Some.taken in

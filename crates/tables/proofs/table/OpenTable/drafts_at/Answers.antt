@@ -5,8 +5,8 @@ use Rattle.tables.specs.Tables.{nobody}
 use Rattle.tables.proofs.Standing.{taken_low, kept_open, at_is, drafts_end}
 use Rattle.tables.proofs.table.OpenTable.drafts_at.Goals as goal
 
-pub row-of-requires : goal.row-of-requires
-row-of-requires c =
+pub row_of-requires : goal.row_of-requires
+row_of-requires c =
     let t = c.args.self.now in
     let p = c.args.place in
     let there = c.in-Some.ensures in
@@ -21,4 +21,4 @@ returns-in-Some c =
     let there = c.in-Some.ensures in
     let k = c.in-Some.taken in
     let is = at_is t p k (taken_low t p there.0) there.1 in
-    ap (map drafting) (c.row-of.ensures ∙ ap (row 32 p k.drafts) c.deref.ensures.value) ∙ sym (ap (λ o. (unwrap_or o nobody).drafts) is)
+    ap (map drafting) (c.row_of.ensures ∙ ap (row 32 p k.drafts) c.deref.ensures.value) ∙ sym (ap (λ o. (unwrap_or o nobody).drafts) is)

@@ -9,5 +9,5 @@ pub returns : goal.returns
 returns c =
     let t = c.args.self.now in
     let n = c.args.number.0 in
-    c.last-with.ensures ∙ ap (last_at (λ e. sought n (number_of e))) c.in-use.ensures
+    c.last_with.ensures ∙ ap (last_at (λ e. sought n (number_of e))) c.in_use.ensures
     ∙ sym (found_place n t.cards (vec_items t.reads) (vec_items t.drafts) (take t.used (vec_items t.places)))

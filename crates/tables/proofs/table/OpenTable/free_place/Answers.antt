@@ -8,7 +8,7 @@ loop-i-preserved c =
     let t = c.args.self.now in
     let i = c.loop-i.i in
     let here = entry_read t (i - 1) (omega arith) c.index.result.now c.index.ensures in
-    all_open_down (vec_items t.places) i _ (omega arith) (omega (arith, t.listed, t.places.ok.0)) (here ∙ c.in-default.is) ∙ c.loop-i.invariant
+    all_open_down (vec_items t.places) i _ (omega arith) (omega (arith, t.listed, t.places.ok.0)) (here ∙ c.in_default.is) ∙ c.loop-i.invariant
 
 pub returns-in-Free : goal.returns-in-Free
 returns-in-Free c =

@@ -5,8 +5,8 @@ use Rattle.transactions.specs.State.{most_drafts}
 use Rattle.tables.specs.Tables.{table_of, with_list, used_of}
 use Rattle.tables.proofs.table.OpenTable.lay_out.Goals as goal
 
-pub add-place-requires : goal.add-place-requires
-add-place-requires c =
+pub add_place-requires : goal.add_place-requires
+add_place-requires c =
     let t = c.args.self.now in
     let cards = c.args.cards in
     let inv = c.loop-self.invariant.0 in
@@ -30,8 +30,8 @@ loop-self-preserved c =
     let t = c.args.self.now in
     let inv = c.loop-self.invariant.0 in
     let u = c.loop-self.self.used in (
-      c.add-place.ensures.table ∙ ap (λ x. with_list x (x.list ++ (None ∷ []))) inv
+      c.add_place.ensures.table ∙ ap (λ x. with_list x (x.list ++ (None ∷ []))) inv
           ∙ ap (λ l. record { places_size = vec_len t.places; reads_size = vec_len t.reads; drafts_size = vec_len t.drafts; cards = c.args.cards; list = l })
-          (replicate_more u None ∙ ap (λ n. replicate n None) (add-one u ∙ sym c.add-place.ensures.used)),
-      omega (arith, c.add-place.ensures.used, c.loop-self-test.true),
+          (replicate_more u None ∙ ap (λ n. replicate n None) (add-one u ∙ sym c.add_place.ensures.used)),
+      omega (arith, c.add_place.ensures.used, c.loop-self-test.true),
     )

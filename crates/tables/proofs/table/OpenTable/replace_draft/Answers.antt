@@ -8,14 +8,14 @@ use Rattle.tables.proofs.EnteringDrafts.{replaced_low, replaced_others, replaced
 use Rattle.tables.proofs.Standing.{taken_low, open_there, drafts_end}
 use Rattle.tables.proofs.table.OpenTable.replace_draft.Goals as goal
 
-pub overflow-mul-place : goal.overflow-mul-place
-overflow-mul-place c =
+pub overflow_mul-place : goal.overflow_mul-place
+overflow_mul-place c =
     let t = c.args.self.now in
     let low = taken_low t c.args.place c.requires.taken in
     omega (arith, drafts_end t c.args.place 0 low (omega arith), t.drafts.ok.1, t.drafts.small)
 
-pub overflow-add-place : goal.overflow-add-place
-overflow-add-place c =
+pub overflow_add-place : goal.overflow_add-place
+overflow_add-place c =
     let t = c.args.self.now in
     let p = c.args.place in
     let low = taken_low t p c.requires.taken in
@@ -36,8 +36,8 @@ index-mut-requires c =
     let below = replaced_low t p k low is c.args.draft c.args.nth c.requires.there c.requires.same in
     omega (arith, drafts_end t p (c.args.nth + 1) low (omega (arith, below)))
 
-pub invariant-of-self : goal.invariant-of-self
-invariant-of-self c =
+pub invariant_of-self : goal.invariant_of-self
+invariant_of-self c =
     let t = c.args.self.now in
     let p = c.args.place in
     let low = taken_low t p c.requires.taken in

@@ -8,26 +8,26 @@ use Rattle.entries.proofs.Drafts.{drafting_cards, drafted_any, found_card}
 use Rattle.entries.proofs.Last.{last_at_none}
 use Rattle.tables.proofs.table.OpenTable.set_draft.Goals as goal
 
-pub replace-draft-requires : goal.replace-draft-requires
-replace-draft-requires c =
-    let es = c.drafts-at.result.now in
+pub replace_draft-requires : goal.replace_draft-requires
+replace_draft-requires c =
+    let es = c.drafts_at.result.now in
     let x = c.args.draft.card.0 in
     let j = c.in-Some.nth in
-    let found = found_card (λ e. e.card.0) es x j c.args.draft (sym c.last-with.ensures ∙ c.in-Some.is) in
-    let are = c.drafts-at.ensures in
+    let found = found_card (λ e. e.card.0) es x j c.args.draft (sym c.last_with.ensures ∙ c.in-Some.is) in
+    let are = c.drafts_at.ensures in
     record {
       taken = c.requires.taken;
       there = omega (arith, found.0, length-map es drafting, ap length are);
       same = ap (λ l. get_or (draft_cards l) j 0) (sym are) ∙ ap (λ l. get_or l j 0) (drafting_cards es) ∙ found.1;
     }
 
-pub add-draft-requires : goal.add-draft-requires
-add-draft-requires c =
-    let es = c.drafts-at.result.now in
+pub add_draft-requires : goal.add_draft-requires
+add_draft-requires c =
+    let es = c.drafts_at.result.now in
     let x = c.args.draft.card.0 in
-    let none = last_at_none (λ e. eqb e.card.0 x) es (sym c.last-with.ensures ∙ c.in-None.is) in
+    let none = last_at_none (λ e. eqb e.card.0 x) es (sym c.last_with.ensures ∙ c.in-None.is) in
     let ds = (at (list_of c.args.self.now) c.args.place).drafts in
-    let out : drafted ds x ≡ false = ap (λ l. drafted l x) (sym c.drafts-at.ensures) ∙ sym (drafted_any es x) ∙ none in
+    let out : drafted ds x ≡ false = ap (λ l. drafted l x) (sym c.drafts_at.ensures) ∙ sym (drafted_any es x) ∙ none in
     record {
       taken = c.requires.taken;
       listed = c.requires.listed;

@@ -5,8 +5,8 @@ use Rattle.records.specs.Format.{record_size, card_in}
 use Rattle.records.proofs.Fields.{glanced, card_fits}
 use Rattle.records.proofs.line.Line.card_in.Goals as goal
 
-pub returns-then-bytes-ne-RECORD-SIZE : goal.returns-then-bytes-ne-RECORD-SIZE
-returns-then-bytes-ne-RECORD-SIZE c =
+pub returns-then-bytes-ne-RECORD_SIZE : goal.returns-then-bytes-ne-RECORD_SIZE
+returns-then-bytes-ne-RECORD_SIZE c =
     let bs = c.args.bytes.now in
     record {
       value = search rules;

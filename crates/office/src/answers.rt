@@ -1,0 +1,133 @@
+// What a session answers to each command.
+use crate::command::{Command, Entry, Make, Question, Size};
+use shelves::{
+    CheckRefusal, PoolMemory, PoolShelf, PutRefusal, RowMemory, RowShelf, Shelf, SplitShelf,
+};
+use stamps::{CardNo, VersionNo};
+use std::alloc::{AllocError, Global};
+use std::io;
+
+// The shelf that a session works with.
+#[derive(Drop)]
+pub enum Held {
+    Nothing,
+    Row(RowShelf),
+    Pool(PoolShelf),
+    Split(SplitShelf<RowShelf, PoolShelf>),
+}
+
+// Carries out a command, and prints its line with the answer.
+pub fn answer(rt: &HostRuntime, held: &mut Held, line: &str, command: Command) -> io::Result<()> {
+    print!(rt; "{line} = ")?;
+    match command {
+        Command::Shelf(make) => match made(rt.alloc(), held, make)? {
+            Ok(()) => println!(rt; "ok"),
+            Err(refusal) => println!(rt; "REFUSED {}", refusal.number()),
+        },
+        Command::Ask(question) => match held {
+            Held::Nothing => println!(rt; "no shelf"),
+            Held::Row(shelf) => ask(rt, shelf, question),
+            Held::Pool(shelf) => ask(rt, shelf, question),
+            Held::Split(shelf) => ask(rt, shelf, question),
+        },
+    }
+}
+
+// Makes a shelf, and says whether it fitted; the shelf of no cards is held if not.
+fn made(heap: Global, held: &mut Held, make: Make) -> Result<Result<(), CheckRefusal>, AllocError> {
+    match make {
+        Make::Row(size) => {
+            let (shelf, fits) = row(heap, size)?;
+            *held = Held::Row(shelf);
+            Ok(fits)
+        }
+        Make::Pool(size) => {
+            let (shelf, fits) = pool(heap, size)?;
+            *held = Held::Pool(shelf);
+            Ok(fits)
+        }
+        Make::Split(left, right) => {
+            let (left, fits) = row(heap, left)?;
+            let (right, fits_too) = pool(heap, right)?;
+            *held = Held::Split(SplitShelf::new(left, right));
+            Ok(fits.and(fits_too))
+        }
+    }
+}
+
+fn row(heap: Global, size: Size) -> Result<(RowShelf, Result<(), CheckRefusal>), AllocError> {
+    let memory = RowMemory::reserve(heap, size.cards, size.places)?;
+    let fits = RowShelf::check(&memory, size.cards, size.width, size.places);
+    Ok((
+        RowShelf::new(memory, size.cards, size.width, size.places),
+        fits,
+    ))
+}
+
+fn pool(heap: Global, size: Size) -> Result<(PoolShelf, Result<(), CheckRefusal>), AllocError> {
+    let memory = PoolMemory::reserve(heap, size.cards, size.places)?;
+    let fits = PoolShelf::check(&memory, size.cards, size.width, size.places);
+    Ok((
+        PoolShelf::new(memory, size.cards, size.width, size.places),
+        fits,
+    ))
+}
+
+// Prints what a shelf answers.
+fn ask<S: Shelf>(rt: &HostRuntime, shelf: &mut S, question: Question) -> io::Result<()> {
+    match question {
+        Question::Put(entry) => put(rt, shelf, entry),
+        Question::Versions(card) => count(rt, shelf.versions(card)),
+        Question::Free(card) => count(rt, shelf.free(card)),
+        Question::Shares(one, other) => match shelf.shares(one, other) {
+            Some(shared) => println!(rt; "{shared}"),
+            None => println!(rt; "absent"),
+        },
+        Question::Version(card, version) => show(rt, shelf, card, version),
+        Question::Stamp(card, version) => counts(rt, shelf, card, version),
+    }
+}
+
+fn put<S: Shelf>(rt: &HostRuntime, shelf: &mut S, entry: Entry) -> io::Result<()> {
+    match shelf.put(entry.card, entry.value, entry.writer, &entry.counts) {
+        Ok(()) => println!(rt; "ok"),
+        Err(PutRefusal::NoCard) => println!(rt; "refused, no such card"),
+        Err(PutRefusal::BadStamp) => println!(rt; "refused, bad stamp"),
+        Err(PutRefusal::NoPlace) => println!(rt; "refused, no free place"),
+    }
+}
+
+fn count(rt: &HostRuntime, n: Option<u32>) -> io::Result<()> {
+    match n {
+        Some(n) => println!(rt; "{n}"),
+        None => println!(rt; "absent"),
+    }
+}
+
+fn show<S: Shelf>(rt: &HostRuntime, shelf: &S, card: CardNo, version: VersionNo) -> io::Result<()> {
+    match (shelf.value(card, version), shelf.writer(card, version)) {
+        (Some(value), Some(writer)) => println!(rt;
+            "words {} {} writer {}",
+            value.first, value.second, writer.0
+        ),
+        _ => println!(rt; "absent"),
+    }
+}
+
+fn counts<S: Shelf>(
+    rt: &HostRuntime,
+    shelf: &S,
+    card: CardNo,
+    version: VersionNo,
+) -> io::Result<()> {
+    let Some(stamp) = shelf.stamp(card, version) else {
+        return println!(rt; "absent");
+    };
+    for i in 0..shelf.width() {
+        if i > 0 {
+            print!(rt; " ")?;
+        }
+        print!(rt; "{}", stamp.entry(CardNo(i)))?;
+    }
+    println!(rt; "")
+}

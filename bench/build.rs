@@ -13,5 +13,5 @@ fn main() {
         println!("cargo::rerun-if-changed={folder}/libworkloads.a");
     }
     println!("cargo::rustc-link-lib=static=workloads");
-    println!("cargo::rustc-link-lib=static=rattle_c");
+    println!("cargo::rustc-link-lib=static=libc_c");
 }

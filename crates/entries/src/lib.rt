@@ -1,4 +1,6 @@
 // What stands in the books of a catalogue, and the search for an entry by its number. Anyone may use this crate.
+#![tactic(auto)]
+
 mod entries;
 mod search;
 

@@ -1,4 +1,6 @@
 // Worked examples of history files and of days in the catalogue, each shown from the definitions alone.
+#![tactic(auto)]
+
 ghost use Rattle.std.specs.Prelude.{◌≡◌, length};
 ghost use Rattle.examples.specs.Examples.{Holds, examples};
 ghost use Rattle.std.specs.List.{AllByRecursion as All};

@@ -1,4 +1,6 @@
 // What each call of the catalogue answers and leaves, as definitions, and the law that holds of them.
+#![tactic(auto)]
+
 pub mod event;
 mod laws;
 pub mod reading;

@@ -1,4 +1,6 @@
 // Holds the judge against the second judge on many made histories, and prints how often each answer came.
+#![tactic(auto)]
+
 mod answer;
 mod comparison;
 mod first;

@@ -1,5 +1,7 @@
 // Prints a history file from standard input: a line for each record, and how many there were of each kind, or the first
 // refusal.
+#![tactic(auto)]
+
 mod counts;
 mod text;
 

@@ -1,4 +1,6 @@
 // The judge that says whether a history file obeys the rules, and what a program prints of its answer.
+#![tactic(auto)]
+
 mod judge_file;
 pub mod refused;
 

@@ -1,4 +1,6 @@
 // What isolation asks of a history of transactions: definitions, and the theorems about them.
+#![tactic(auto)]
+
 mod laws;
 mod needed;
 

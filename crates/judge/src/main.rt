@@ -1,4 +1,6 @@
 // Judges a history file from standard input: prints one line, the verdict or the refusal.
+#![tactic(auto)]
+
 mod text;
 
 use history::LARGEST_FILE;

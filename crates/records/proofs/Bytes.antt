@@ -1,5 +1,5 @@
 -- Numbers as bytes and back, for any number of bytes. Assumes nothing.
-use Rattle.std.proofs.Common.{◌≡◌, ℕ, zero, suc, ◌+◌, ◌*◌, ◌/◌, ◌%◌, ◌^◌, ◌<◌, ◌≤◌, List, [], ◌∷◌, ◌++◌, length, get_or, take, drop, sym, refl, ap, ◌∙◌, subst, mod-eq_of_lt, pow-suc, arith, lit<, length-append, take_all, take-add}
+use Rattle.std.proofs.Common.{◌≡◌, ℕ, zero, suc, ◌+◌, ◌*◌, ◌/◌, ◌%◌, ◌^◌, ◌<◌, ◌≤◌, List, [], ◌∷◌, ◌++◌, length, get_or, sym, refl, ap, ◌∙◌, mod-eq_of_lt, pow-suc, arith, lit<, length-append, take_all, take-add}
 use native.Mathlib.Nat.{div-div-eq-div-mul, pow-succ', pow-zero, mod-one, one-le-pow}
 use lib.Arith.{digits_div, digits_mod, mod-mul}
 use lib.Seq.{get_or_at}

@@ -8,7 +8,7 @@ use Rattle.records.specs.declared.kind.Kind.TheVariants.{Read, Writ, Done, Gone}
 use Rattle.records.specs.declared.line.Line.{Line}
 use Rattle.records.specs.declared.fault.RecordFault.{RecordFault}
 use Rattle.records.specs.declared.fault.RecordFault.TheVariants as faults
-use Rattle.records.specs.Format.{record_size, letters, bytes_of, line_behind, fields_of, fault_of, tested, decoded, encoded}
+use Rattle.records.specs.Format.{letters, bytes_of, line_behind, fields_of, fault_of, tested, decoded, encoded}
 
 -- the line behind the letters of k, tested
 abbrev pub tested_behind : Kind → List ℕ → Result Line RecordFault

@@ -13,7 +13,7 @@
 --     encoded l                   the bytes that a line is written as
 --     writes l n                  what writing l into n bytes answers
 --     fault_number f              the number of a refusal for a record's fault
-use Rattle.std.specs.Prelude.{◌≡◌, ℕ, zero, suc, ◌+◌, ◌*◌, ◌/◌, ◌%◌, ◌^◌, Bool, true, false, cond, ◌&&◌, List, [], ◌∷◌, ◌++◌, length, drop, Some, None, Ok, Err, Option, Result, ◌==◌, nat_le, slice_index}
+use Rattle.std.specs.Prelude.{ℕ, zero, suc, ◌+◌, ◌*◌, ◌/◌, ◌%◌, ◌^◌, Bool, true, false, cond, ◌&&◌, List, [], ◌∷◌, ◌++◌, length, drop, Some, None, Ok, Err, Option, Result, ◌==◌, nat_le, slice_index}
 use Rattle.stamps.specs.declared.numbers.CardNo.{CardNo}
 use Rattle.stamps.specs.declared.numbers.TxNo.{TxNo}
 use Rattle.stamps.specs.declared.value.Value.{Value}

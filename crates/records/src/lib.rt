@@ -1,4 +1,6 @@
 // The records of a history file: 32 bytes each, as lines and back.
+#![tactic(auto)]
+
 pub mod decode;
 pub mod encode;
 pub mod fault;

@@ -1,5 +1,7 @@
 // A second judge of history files, to hold the first one against. It keeps maps of its own and finds dependence as the
 // closure of a matrix; with the first judge it shares the record reader and no other code.
+#![tactic(auto)]
+
 pub mod matrix;
 pub mod opinion;
 pub mod second;

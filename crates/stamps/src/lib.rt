@@ -1,4 +1,6 @@
 // The numbers, values and stamps that every other crate speaks in.
+#![tactic(auto)]
+
 pub mod numbers;
 mod stamp;
 pub mod value;

@@ -1,4 +1,6 @@
 // A generator of history files for the judges: good ones, ones that break each property, and damaged ones, from a seed.
+#![tactic(auto)]
+
 pub mod dice;
 pub mod forms;
 pub mod habits;

@@ -1,10 +1,9 @@
 -- A search step by step: what one visit finds, what several find together, and what is reached at the end.
-use Rattle.std.proofs.Common.{◌≡◌, ℕ, zero, suc, ◌+◌, ◌<◌, ◌≤◌, Bool, true, false, cond, eqb, ◌≢◌, ◌⊎◌, List, [], ◌∷◌, length, get_or, set, replicate, sym, refl, ap, ◌∙◌, subst, inl, inr, add-one, arith, length-set, get_or-set_other, get_or-set_same}
+use Rattle.std.proofs.Common.{◌≡◌, ℕ, zero, suc, ◌+◌, ◌<◌, ◌≤◌, cond, eqb, ◌≢◌, ◌⊎◌, List, length, get_or, set, replicate, sym, refl, ap, ◌∙◌, subst, inl, inr, arith, length-set, get_or-set_other, get_or-set_same}
 use Rattle.std.proofs.lemmas.List.{get_or-replicate, get_or_past, length-replicate}
-use Rattle.std.proofs.lemmas.Bool.Decides.{nat_tests, eqb_tells}
 use Rattle.std.proofs.lemmas.Bool.{cases_lt, cases_eq, cases_Bool}
 use Rattle.reach.specs.Links.{places, from, to}
-use Rattle.reach.specs.Paths.{Edge, Path, Path.one, Path.more, Marked, Reached}
+use Rattle.reach.specs.Paths.{Edge, Path, Marked, Reached}
 use Rattle.reach.specs.Searches.{unmarked, Room, Closed, Waits, Is, Found, Search}
 use Rattle.reach.specs.declared.queue.Queue.{Queue}
 

@@ -1,5 +1,7 @@
 // Reachability: which nodes of a graph can be come to from a node. Two calls ask something of their caller: `Graph::search` clear marks and
 // an empty queue, and `Queue::clear` a queue that holds every marked node, as a search leaves it.
+#![tactic(auto)]
+
 pub mod graph;
 mod queue;
 

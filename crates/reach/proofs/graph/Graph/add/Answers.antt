@@ -1,4 +1,4 @@
-use Rattle.std.proofs.Common.{◌≡◌, ◌<◌, ◌≤◌, length, refl, ◌∙◌, arith, rules}
+use Rattle.std.proofs.Common.{◌<◌, ◌≤◌, length, refl, ◌∙◌, arith}
 use Rattle.std.proofs.lemmas.Bool.Decides.{nat_tests}
 use Rattle.reach.specs.Links.{places}
 use Rattle.std.proofs.lemmas.List.{take_more_set, length-take-le, length-set}
@@ -17,19 +17,14 @@ invariant_of-self c =
     let g = c.args.self.now in
     let es : g.count < length g.edges = omega arith in
     let ns : places ≤ length g.newest = omega arith in
-    let os : g.count < length g.older = omega arith in (
-      omega arith,
-      (
-        length-set g.edges g.count (c.args.from, c.args.to) ∙ g.long,
-        (
-          within_add g.edges g.count c.args.from c.args.to es (omega arith) (omega arith) g.within,
-          (
-            newest_add g.edges g.count c.args.from c.args.to es g.newest ns (omega arith) g.starts,
-            (older_add g.edges g.count c.args.from c.args.to es g.newest g.older os (omega arith) g.starts g.onward, tt),
-          ),
-        ),
-      ),
-    )
+    let os : g.count < length g.older = omega arith in
+    record {
+      room = omega arith;
+      long = length-set g.edges g.count (c.args.from, c.args.to) ∙ g.long;
+      within = within_add g.edges g.count c.args.from c.args.to es (omega arith) (omega arith) g.within;
+      starts = newest_add g.edges g.count c.args.from c.args.to es g.newest ns (omega arith) g.starts;
+      onward = older_add g.edges g.count c.args.from c.args.to es g.newest g.older os (omega arith) g.starts g.onward;
+    }
 
 pub returns : goal.returns
 returns c =

@@ -1,8 +1,7 @@
-use Rattle.std.proofs.Common.{◌≡◌, ℕ, suc, ◌-◌, ◌<◌, ◌≤◌, length, sym, refl, ap, ◌∙◌, subst, inl, inr, arith}
+use Rattle.std.proofs.Common.{◌≡◌, ◌-◌, ◌<◌, ◌≤◌, length, sym, ◌∙◌, inl, inr, arith}
 use Rattle.std.proofs.lemmas.Bool.{cases_order}
-use Rattle.reach.specs.Links.{places, from, to}
-use Rattle.reach.specs.Paths.{edges, Edge, Marked}
-use Rattle.reach.specs.Searches.{Found}
+use Rattle.reach.specs.Links.{from, to}
+use Rattle.reach.specs.Paths.{Marked}
 use Rattle.reach.proofs.LinkLaws.{newest_last, older_last, edge_raw, raw_edge}
 use Rattle.reach.proofs.SearchLaws.{found_none, found_more}
 use Rattle.reach.proofs.graph.Graph.expand.Goals as goal

@@ -1,6 +1,5 @@
-use Rattle.std.proofs.Common.{◌≡◌, ℕ, ◌<◌, ◌≤◌, length, get_or, take, sym, ap, ◌∙◌, subst, arith}
+use Rattle.std.proofs.Common.{◌≡◌, ◌≤◌, length, get_or, arith}
 use Rattle.std.proofs.lemmas.List.{length-take-le}
-use Rattle.reach.specs.Links.{places, from, Last}
 use Rattle.reach.specs.Paths.{edges}
 use Rattle.reach.proofs.LinkLaws.{newest_last, last_taken, edges_within}
 use Rattle.reach.proofs.graph.Graph.newest.Goals as goal

@@ -1,6 +1,6 @@
-use Rattle.std.proofs.Common.{◌≡◌, ℕ, ◌<◌, ◌≤◌, length, get_or, take, sym, ap, ◌∙◌, subst, arith}
+use Rattle.std.proofs.Common.{◌≡◌, ℕ, ◌≤◌, length, get_or, sym, ap, subst, arith}
 use Rattle.std.proofs.lemmas.List.{length-take-le, get_or-take}
-use Rattle.reach.specs.Links.{places, from, Last}
+use Rattle.reach.specs.Links.{from, Last}
 use Rattle.reach.specs.Paths.{edges}
 use Rattle.reach.proofs.LinkLaws.{older_last, last_taken}
 use Rattle.reach.proofs.graph.Graph.older.Goals as goal

@@ -1,4 +1,4 @@
-use Rattle.std.proofs.Common.{◌≡◌, ℕ, List, length, subst}
+use Rattle.std.proofs.Common.{ℕ, List, length, subst}
 use Rattle.reach.specs.Paths.{Marked}
 use Rattle.reach.proofs.SearchLaws.{none_marked}
 use Rattle.reach.proofs.graph.Graph.reach.Goals as goal

@@ -1,7 +1,7 @@
-use Rattle.std.proofs.Common.{◌≡◌, ℕ, suc, ◌<◌, ◌≤◌, List, length, get_or, sym, refl, ◌∙◌, subst, inl, inr, arith}
+use Rattle.std.proofs.Common.{◌≡◌, ℕ, ◌≤◌, length, get_or, sym, refl, subst, inl, inr, arith}
 use Rattle.std.proofs.lemmas.Bool.{cases_lt}
-use Rattle.reach.specs.Paths.{edges, Marked}
-use Rattle.reach.specs.Searches.{Search, Closed}
+use Rattle.reach.specs.Paths.{edges}
+use Rattle.reach.specs.Searches.{Closed}
 use Rattle.reach.specs.declared.graph.Graph.{Graph}
 use Rattle.reach.proofs.LinkLaws.{edges_within}
 use Rattle.reach.proofs.SearchLaws.{search_none, search_more, closed_more, all_reached, path_inside, path_from_inside}

@@ -1,4 +1,4 @@
-use Rattle.std.proofs.Common.{◌<◌, ◌≤◌, length, arith, get_or-set_same}
+use Rattle.std.proofs.Common.{arith, get_or-set_same}
 use Rattle.reach.proofs.SearchLaws.{unmarked_less, visited}
 use Rattle.reach.specs.Links.{places}
 use Rattle.reach.proofs.queue.Queue.visit.Goals as goal

@@ -2,7 +2,7 @@
 use Rattle.std.specs.Prelude.{◌≡◌, ℕ, zero, suc, pred, ◌+◌, ◌-◌, ◌<◌, ◌≤◌, Bool, true, false, cond, ◌&&◌, ◌≢◌, List, [], ◌∷◌, ◌++◌, length, Some, ◌==◌, nat_lt, refl}
 use Rattle.std.proofs.Common.{sym, ap, subst, ◌∙◌, ⊎_elim, arith}
 use Rattle.std.proofs.Math.Path.{fun_ext}
-use Rattle.std.specs.List.{slice_get, AllByRecursion as All}
+use Rattle.std.specs.List.{slice_get, AllByRecursion}
 use Rattle.std.proofs.ByRecursion.{All-push}
 use Rattle.std.proofs.lemmas.List.{length_push}
 use Rattle.std.proofs.lemmas.Bool.{cases_lt, cases_eq, cond-true, cond-false, cond_both, lt-ltb, le-ltb, eq-eqb, ne_eqb, ltb-true, and_parts, and_left}
@@ -53,10 +53,10 @@ module _ (owner : ℕ → ℕ) (at : ℕ → Version) (c : ℕ) where
       (λ _. before))
       (cases_eq p n)
 
-  narrow_all : (w n : ℕ) → ((p : ℕ) → Narrow w (at p)) → All (Narrow w) (gathered owner at c n)
+  narrow_all : (w n : ℕ) → ((p : ℕ) → Narrow w (at p)) → AllByRecursion (Narrow w) (gathered owner at c n)
   narrow_all w zero slim = tt
   narrow_all w (suc n) slim =
-      cond_both (owner n == c) (gathered owner at c n ++ at n ∷ []) (gathered owner at c n) (All (Narrow w))
+      cond_both (owner n == c) (gathered owner at c n ++ at n ∷ []) (gathered owner at c n) (AllByRecursion (Narrow w))
       (λ _. All-push (Narrow w) (gathered owner at c n) (at n) (narrow_all w n slim) (slim n))
       (λ _. narrow_all w n slim)
 
@@ -102,8 +102,8 @@ module _ (cards width size used : ℕ) (owner : ℕ → ℕ) (at : ℕ → Versi
         roomy = λ c h. omega (arith, pool_length c h, tally_le owner at c used, cond-true (nat_lt c cards) (size - used) 0 (lt-ltb c cards h));
         stamps = λ c.
             ⊎_elim
-            (λ (h : c < cards). subst (All (Narrow width)) (sym (pool_listed c h)) ((λ i. (omega arith, λ _. refl)), narrow_all owner at c width used slim))
-            (λ (h : cards ≤ c). subst (All (Narrow width)) (sym (pool_none c h)) tt)
+            (λ (h : c < cards). subst (AllByRecursion (Narrow width)) (sym (pool_listed c h)) ((λ i. (omega arith, λ _. refl)), narrow_all owner at c width used slim))
+            (λ (h : cards ≤ c). subst (AllByRecursion (Narrow width)) (sym (pool_none c h)) tt)
             (cases_lt c cards);
         shares_itself = λ c h. grind (arith, nat_tests);
         shares_back = λ a b e. grind (arith, nat_tests);

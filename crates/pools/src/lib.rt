@@ -1,4 +1,6 @@
 // A shelf with one drawer for all its cards.
+#![tactic(auto)]
+
 mod chain;
 mod pool;
 

@@ -2,7 +2,7 @@
 use Rattle.std.specs.Prelude.{◌≡◌, ℕ, zero, suc, pred, ◌+◌, ◌-◌, ◌*◌, ◌/◌, ◌<◌, ◌≤◌, false, cond, ◌&&◌, ◌≢◌, [], ◌∷◌, ◌++◌, map, length, Some, ◌==◌, nat_lt, refl}
 use Rattle.std.proofs.Common.{sym, ap, subst, ◌∙◌, ⊎_elim, arith}
 use Rattle.std.proofs.Math.Path.{fun_ext}
-use Rattle.std.specs.List.{slice_get, range_with_len, AllByRecursion as All}
+use Rattle.std.specs.List.{slice_get, range_with_len, AllByRecursion}
 use Rattle.std.proofs.lemmas.Nat.{div-mul-add}
 use Rattle.std.proofs.lemmas.List.FromFn.{length-map-range_with_len, get_or-map-range_with_len, map-range_with_len_more}
 use Rattle.std.proofs.lemmas.Option.{slice_get-get_or}
@@ -21,7 +21,7 @@ map_counting_same f g a (suc n) same =
     let rest = map_counting_same f g (a + 1) n (λ k l h. same k (omega arith) (omega arith)) in
     λ z. first z ∷ rest z
 
-all_counting : (P : Version → Type 0) (f : ℕ → Version) (a n : ℕ) → ((k : ℕ) → P (f k)) → All P (map f (range_with_len a n))
+all_counting : (P : Version → Type 0) (f : ℕ → Version) (a n : ℕ) → ((k : ℕ) → P (f k)) → AllByRecursion P (map f (range_with_len a n))
 all_counting P f a zero each = tt
 all_counting P f a (suc n) each = (each a, all_counting P f (a + 1) n each)
 
@@ -55,8 +55,8 @@ module _ (cards width depth : ℕ) (used : ℕ → ℕ) (at : ℕ → Version) w
         roomy = λ c h. omega (arith, row_length c h, kept c h, cond-true (nat_lt c cards) (depth - used c) 0 (lt-ltb c cards h));
         stamps = λ c.
             ⊎_elim
-            (λ (h : c < cards). subst (All (Narrow width)) (sym (row_listed c h)) ((λ i. (omega arith, λ _. refl)), all_counting (Narrow width) _ 0 (used c) (λ k. slim (c * depth + k))))
-            (λ (h : cards ≤ c). subst (All (Narrow width)) (sym (row_none c h)) tt)
+            (λ (h : c < cards). subst (AllByRecursion (Narrow width)) (sym (row_listed c h)) ((λ i. (omega arith, λ _. refl)), all_counting (Narrow width) _ 0 (used c) (λ k. slim (c * depth + k))))
+            (λ (h : cards ≤ c). subst (AllByRecursion (Narrow width)) (sym (row_none c h)) tt)
             (cases_lt c cards);
         shares_itself = λ c h. grind (arith, nat_tests);
         shares_back = λ a b e. grind (arith, nat_tests);

@@ -2,7 +2,7 @@
 --     Narrow w v      version v's counts are at most 65,535, and 0 from the width w on
 --     Sound m         m keeps the laws, each named below
 use Rattle.std.specs.Prelude.{◌≡◌, ℕ, ◌+◌, ◌<◌, ◌≤◌, true, [], length, Some}
-use Rattle.std.specs.List.{AllByRecursion as All}
+use Rattle.std.specs.List.{AllByRecursion}
 use Rattle.stamps.specs.Counts.{room, most}
 use Rattle.shelf.specs.Meaning.{Version, Meaning, first_version, version_at}
 
@@ -17,7 +17,7 @@ pub record Sound (m : Meaning) : Type 0 where
   pub first : (c : ℕ) → c < m.cards → version_at m c 0 ≡ Some first_version
   -- a card's versions and its drawer's free places are at most 65,536
   pub roomy : (c : ℕ) → c < m.cards → length (m.line c) + m.free c ≤ 65536
-  pub stamps : (c : ℕ) → All (Narrow m.width) (m.line c)
+  pub stamps : (c : ℕ) → AllByRecursion (Narrow m.width) (m.line c)
   -- sharing a drawer is an equivalence on the cards of the shelf, and no other card shares one
   pub shares_itself : (c : ℕ) → c < m.cards → m.shares c c ≡ true
   pub shares_back : (a b : ℕ) → m.shares a b ≡ true → m.shares b a ≡ true

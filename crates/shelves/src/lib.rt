@@ -1,4 +1,6 @@
 // Every make of shelf, under one name.
+#![tactic(auto)]
+
 #[cfg(test)]
 mod tests;
 

@@ -2,7 +2,7 @@
 use Rattle.std.specs.Prelude.{◌≡◌, ℕ, ◌+◌, ◌<◌, ◌≤◌, Bool, true, false, cond, ◌&&◌, List, [], map, length, Some, None, Option, nat_lt, refl}
 use Rattle.std.proofs.Common.{ap, ◌∙◌, arith}
 use Rattle.std.proofs.Math.Path.{fun_ext}
-use Rattle.std.specs.List.{slice_get, AllByRecursion as All}
+use Rattle.std.specs.List.{slice_get, AllByRecursion}
 use Rattle.std.specs.Option.{option_map}
 use Rattle.std.proofs.ByRecursion.{All-map, All-weaker}
 use Rattle.std.proofs.lemmas.List.{length-map}
@@ -93,7 +93,7 @@ module _ (p : Parts) (laws : (s : Side) → Sound (p s)) where
     roomy_at _ (here s d at) h = omega (arith, length-map ((p s).line d.0) (narrowed (width_of p)), (laws s).roomy d.0 at.listed)
     roomy_at _ (nowhere past) h = absurd (omega arith)
 
-    stamps_at : (o : Option (Side × CardNo)) → All (Narrow (width_of p)) (line_at o)
+    stamps_at : (o : Option (Side × CardNo)) → AllByRecursion (Narrow (width_of p)) (line_at o)
     stamps_at None = tt
     stamps_at (Some (s, d)) =
         All-map (Narrow (width_of p)) (narrowed (width_of p)) ((p s).line d.0)

@@ -1,7 +1,7 @@
 -- A watched read obeys the law, and what it leaves is watched.
 use Rattle.std.proofs.Common.{◌≡◌, ℕ, zero, suc, ◌<◌, ◌≤◌, true, false, cond, ltb, ◌⊎◌, Some, Ok, Err, refl, ap, ◌∙◌, inl, inr, arith}
 use Rattle.std.proofs.lemmas.Bool.{cases_Bool, both_ways, cond-true, cond-false, lt-ltb, le-ltb}
-use Rattle.shelf.specs.Meaning.{Meaning, newest}
+use Rattle.shelf.specs.Meaning.{Meaning}
 use Rattle.isolation.specs.Account.{Account, has_read, draft_of, after_read}
 use Rattle.isolation.specs.AccountHistory.{Reads}
 use Rattle.isolation.specs.Lawful.{Lawful, NewestFit}

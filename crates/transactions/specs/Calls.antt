@@ -5,7 +5,7 @@
 --     draft_answer b n x, after_draft b n x v     a draft of v for card x by transaction n
 --     abandon_answer b n, after_end b n           the end of transaction n without a commit
 --     after_close b                               the end of all open transactions
-use Rattle.std.specs.Prelude.{◌≡◌, ℕ, zero, suc, ◌*◌, min, Bool, true, false, cond, not, ◌&&◌, ◌||◌, List, [], ◌∷◌, ◌++◌, length, replicate, Some, None, Ok, Err, Option, Result, ◌==◌, nat_le, nat_lt, slice_set}
+use Rattle.std.specs.Prelude.{◌≡◌, ℕ, zero, suc, ◌*◌, min, Bool, true, false, cond, ◌&&◌, ◌||◌, List, [], ◌∷◌, ◌++◌, length, replicate, Some, None, Ok, Err, Option, Result, ◌==◌, nat_le, nat_lt, slice_set}
 use Rattle.std.specs.List.{slice_get}
 use Rattle.stamps.specs.declared.value.Value.{Value}
 use Rattle.shelf.specs.Meaning.{Meaning, newest}

@@ -7,10 +7,8 @@
 --     put_cards .. x              the shelf with the drafts below card x put, in rising card order
 --     read_lines, writ_lines, block       the lines that a commit adds to the journal: READs, WRITs, each in rising card order, and a DONE
 --     commit_shelf b m n, commit_books b m n      the shelf and the books after the call
-use Rattle.std.specs.Prelude.{◌≡◌, ℕ, zero, suc, ◌+◌, min, Bool, true, false, cond, not, ◌&&◌, ◌||◌, List, [], ◌∷◌, ◌++◌, length, Some, None, Ok, Err, Option, Result, ◌==◌, nat_lt}
+use Rattle.std.specs.Prelude.{ℕ, zero, suc, ◌+◌, min, Bool, true, false, cond, not, ◌||◌, List, [], ◌∷◌, ◌++◌, length, Some, None, Ok, Err, Option, Result, ◌==◌, nat_lt}
 use Rattle.std.specs.Option.{unwrap_or}
-use Rattle.stamps.specs.declared.numbers.CardNo.{CardNo}
-use Rattle.stamps.specs.declared.numbers.TxNo.{TxNo}
 use Rattle.stamps.specs.declared.value.Value.{Value}
 use Rattle.stamps.specs.Blank.{blank}
 use Rattle.stamps.specs.Counts.{most, cut}
@@ -24,7 +22,7 @@ use Rattle.isolation.specs.Account.{Reading, Draft, has_read, drafted, draft_of}
 use Rattle.isolation.specs.Vectors.{greatest}
 use Rattle.transactions.specs.declared.refusal.Refusal.{Refusal}
 use Rattle.transactions.specs.declared.refusal.Refusal.TheVariants as refusals
-use Rattle.transactions.specs.State.{Open, State, held, put_back, room}
+use Rattle.transactions.specs.State.{Open, State, held, room}
 use Rattle.transactions.specs.Choosing.{stamps_of, version_read, other_shelf}
 use Rattle.transactions.specs.Calls.{after_end}
 

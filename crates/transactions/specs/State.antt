@@ -10,7 +10,7 @@
 --     with_places b ps            b with other open places
 --     put_back b n o              b with o in the place of transaction n
 --     room b                      how many more lines the journal takes
-use Rattle.std.specs.Prelude.{ℕ, suc, ◌-◌, Bool, true, false, cond, List, [], ◌∷◌, length, Some, None, Option, ◌==◌, slice_set}
+use Rattle.std.specs.Prelude.{ℕ, suc, ◌-◌, Bool, false, cond, List, [], ◌∷◌, length, Some, None, Option, ◌==◌, slice_set}
 use Rattle.std.specs.List.{slice_get}
 use Rattle.records.specs.declared.line.Line.{Line}
 use Rattle.isolation.specs.Account.{Reading, Draft}

@@ -9,7 +9,7 @@
 --     enough t cards      there is a place, and for each place used one read entry for each card and 32 drafts
 --     laid_out t cards    t after set-up
 --     read_more, draft_set            a transaction with one reading more, and with a draft set
-use Rattle.std.specs.Prelude.{ℕ, ◌*◌, min, Bool, ◌&&◌, List, [], ◌∷◌, ◌++◌, take, set, replicate, is_some, None, vec_items, vec_len, Option, nat_le, nat_lt, slice_index_or, slice_set}
+use Rattle.std.specs.Prelude.{ℕ, ◌*◌, min, Bool, ◌&&◌, List, [], ◌∷◌, ◌++◌, take, replicate, is_some, None, vec_items, vec_len, Option, nat_le, nat_lt, slice_index_or, slice_set}
 use Rattle.std.specs.List.{slice_get}
 use Rattle.std.specs.Option.{unwrap_or}
 use Rattle.stamps.specs.declared.value.Value.{Value}

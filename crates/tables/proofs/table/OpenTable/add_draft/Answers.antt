@@ -22,8 +22,8 @@ overflow_add-place c =
     let room = drafts_many t p k low is in
     omega (arith, drafts_end t p k.drafts low (omega (arith, room, c.requires.few)), t.drafts.ok.1, t.drafts.small)
 
-pub index-mut-requires : goal.index-mut-requires
-index-mut-requires c =
+pub index_mut-requires : goal.index_mut-requires
+index_mut-requires c =
     let t = c.args.self.now in
     let p = c.args.place in
     let k = c.in-Some.taken in
@@ -32,8 +32,8 @@ index-mut-requires c =
     let room = drafts_many t p k low is in
     omega (arith, drafts_end t p (k.drafts + 1) low (omega (arith, room, c.requires.few)))
 
-pub overflow_add-self : goal.overflow_add-self
-overflow_add-self c =
+pub overflow_add-taken : goal.overflow_add-taken
+overflow_add-taken c =
     let t = c.args.self.now in
     let p = c.args.place in
     let k = c.in-Some.taken in
@@ -42,8 +42,8 @@ overflow_add-self c =
     let room = drafts_many t p k low is in
     omega (arith, room, c.requires.few)
 
-pub index-mut-requires-2 : goal.index-mut-requires-2
-index-mut-requires-2 c = omega (arith, taken_low c.args.self.now c.args.place c.requires.taken, c.args.self.now.listed)
+pub index_mut-requires-2 : goal.index_mut-requires-2
+index_mut-requires-2 c = omega (arith, taken_low c.args.self.now c.args.place c.requires.taken, c.args.self.now.listed)
 
 pub invariant_of-self : goal.invariant_of-self
 invariant_of-self c =
@@ -59,7 +59,7 @@ invariant_of-self c =
     let kept = kept_changed t p low (added_place t p k low is e c.requires.listed few c.requires.undrafted) (vec_items t.reads) ds
     (same_rows t.cards p (vec_items t.reads)) (added_others t p k low is e c.requires.listed few c.requires.undrafted)
     (added_kept t p k low is e c.requires.listed few c.requires.undrafted) in
-    (t.listed, (t.read, (t.drafted, (kept, tt))))
+    record { listed = t.listed; read = t.read; drafted = t.drafted; kept = kept }
 
 pub returns : goal.returns
 returns c =

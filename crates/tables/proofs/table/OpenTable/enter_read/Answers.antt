@@ -20,24 +20,24 @@ overflow_add-place c =
     let room = reads_room t c.args.place k low c.in-Some.ensures.1 c.args.entry.card.0 c.requires.listed c.requires.unread in
     omega (arith, reads_end t c.args.place k.reads low (omega (arith, room)), t.reads.ok.1, t.reads.small)
 
-pub index-mut-requires : goal.index-mut-requires
-index-mut-requires c =
+pub index_mut-requires : goal.index_mut-requires
+index_mut-requires c =
     let t = c.args.self.now in
     let k = c.in-Some.taken in
     let low = taken_low t c.args.place c.requires.taken in
     let room = reads_room t c.args.place k low c.in-Some.ensures.1 c.args.entry.card.0 c.requires.listed c.requires.unread in
     omega (arith, reads_end t c.args.place (k.reads + 1) low (omega (arith, room)))
 
-pub overflow_add-self : goal.overflow_add-self
-overflow_add-self c =
+pub overflow_add-taken : goal.overflow_add-taken
+overflow_add-taken c =
     let t = c.args.self.now in
     let k = c.in-Some.taken in
     let low = taken_low t c.args.place c.requires.taken in
     let room = reads_room t c.args.place k low c.in-Some.ensures.1 c.args.entry.card.0 c.requires.listed c.requires.unread in
     omega (arith, reads_end t c.args.place (k.reads + 1) low (omega (arith, room)), t.reads.ok.1, t.reads.small)
 
-pub index-mut-requires-2 : goal.index-mut-requires-2
-index-mut-requires-2 c = omega (arith, taken_low c.args.self.now c.args.place c.requires.taken, c.args.self.now.listed)
+pub index_mut-requires-2 : goal.index_mut-requires-2
+index_mut-requires-2 c = omega (arith, taken_low c.args.self.now c.args.place c.requires.taken, c.args.self.now.listed)
 
 pub invariant_of-self : goal.invariant_of-self
 invariant_of-self c =
@@ -51,7 +51,7 @@ invariant_of-self c =
     let kept = kept_changed t p low (read_place t p k low is e c.requires.listed c.requires.unread) rs (vec_items t.drafts)
     (read_others t p k low is e c.requires.listed c.requires.unread) (same_rows most_drafts p (vec_items t.drafts))
     (read_kept t p k low is e c.requires.listed c.requires.unread) in
-    (t.listed, (t.read, (t.drafted, (kept, tt))))
+    record { listed = t.listed; read = t.read; drafted = t.drafted; kept = kept }
 
 pub returns : goal.returns
 returns c =

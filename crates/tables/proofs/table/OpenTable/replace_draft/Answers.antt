@@ -25,8 +25,8 @@ overflow_add-place c =
     let below = replaced_low t p k low is c.args.draft c.args.nth c.requires.there c.requires.same in
     omega (arith, drafts_end t p c.args.nth low (omega (arith, below)), t.drafts.ok.1, t.drafts.small)
 
-pub index-mut-requires : goal.index-mut-requires
-index-mut-requires c =
+pub index_mut-requires : goal.index_mut-requires
+index_mut-requires c =
     let t = c.args.self.now in
     let p = c.args.place in
     let low = taken_low t p c.requires.taken in
@@ -50,16 +50,13 @@ invariant_of-self c =
     let unset = ap (set (vec_items t.places) p) (sym is) ∙ set-get_or (vec_items t.places) p place.Free in
     let changed = kept_changed t p low (place.Open k) (vec_items t.reads) ds
     (same_rows t.cards p (vec_items t.reads)) (replaced_others t p k low is e c.args.nth c.requires.there c.requires.same)
-    (replaced_kept t p k low is e c.args.nth c.requires.there c.requires.same) in (
-      t.listed,
-      (
-        t.read,
-        (
-          t.drafted,
-          ((λ q h. ap (λ l. kept_at t.cards (vec_items t.reads) ds q (get_or l q place.Free)) (sym unset) ∙ changed q h), tt),
-        ),
-      ),
-    )
+    (replaced_kept t p k low is e c.args.nth c.requires.there c.requires.same) in
+    record {
+      listed = t.listed;
+      read = t.read;
+      drafted = t.drafted;
+      kept = λ q h. ap (λ l. kept_at t.cards (vec_items t.reads) ds q (get_or l q place.Free)) (sym unset) ∙ changed q h;
+    }
 
 pub returns : goal.returns
 returns c =

@@ -1,4 +1,6 @@
 // The books of a catalogue: who is open, what was read and drafted, the journal; and the exact result of every call on them. Anyone may use this crate.
+#![tactic(auto)]
+
 mod books;
 mod slip;
 

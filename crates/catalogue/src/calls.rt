@@ -32,9 +32,9 @@ impl Catalogue {
 
     // Makes the books empty, for the transactions on this shelf.
     pub fn set_up<S: Shelf>(&mut self, shelf: &S) -> Result<(), Refusal>
-        ensures answer { result ≡ set_up_answer (kept self.old) (meaning shelf.now) }
-        ensures books { kept self.new ≡ after_set_up (kept self.old) (meaning shelf.now) }
-        ensures law { SetUpPromise (meaning shelf.now) result (kept self.new) }
+        ensures answer { result ≡ set_up_answer (kept self.old) (S.meaning shelf.now) }
+        ensures books { kept self.new ≡ after_set_up (kept self.old) (S.meaning shelf.now) }
+        ensures law { SetUpPromise (S.meaning shelf.now) result (kept self.new) }
     {
         self.books.set_up(shelf)
     }
@@ -55,9 +55,9 @@ impl Catalogue {
         slip: &Slip,
         card: CardNo,
     ) -> Result<Reading, Refusal>
-        ensures answer { result ≡ read_answer (kept self.old) (meaning shelf.now) slip.now.number.0 card.0 }
-        ensures books { kept self.new ≡ after_read (kept self.old) (meaning shelf.now) slip.now.number.0 card.0 }
-        ensures law { ReadPromise (meaning shelf.now) (kept self.old) slip.now.number.0 card.0 result (kept self.new) }
+        ensures answer { result ≡ read_answer (kept self.old) (S.meaning shelf.now) slip.now.number.0 card.0 }
+        ensures books { kept self.new ≡ after_read (kept self.old) (S.meaning shelf.now) slip.now.number.0 card.0 }
+        ensures law { ReadPromise (S.meaning shelf.now) (kept self.old) slip.now.number.0 card.0 result (kept self.new) }
     {
         self.books.read(shelf, slip, card)
     }
@@ -73,10 +73,10 @@ impl Catalogue {
 
     // Commits a transaction, or hands its slip back; at a conflict the transaction ends and the slip is spent.
     pub fn commit<S: Shelf>(&mut self, shelf: &mut S, slip: Slip) -> Result<(), NotCommitted>
-        ensures answer { result ≡ handed slip (commit_answer (kept self.old) (meaning shelf.old) slip.number.0) }
-        ensures shelf { meaning shelf.new ≡ commit_shelf (kept self.old) (meaning shelf.old) slip.number.0 }
-        ensures books { kept self.new ≡ commit_books (kept self.old) (meaning shelf.old) slip.number.0 }
-        ensures law { CommitPromise (meaning shelf.old) (kept self.old) slip.number.0 (decision result) (meaning shelf.new) (kept self.new) }
+        ensures answer { result ≡ handed slip (commit_answer (kept self.old) (S.meaning shelf.old) slip.number.0) }
+        ensures shelf { meaning shelf.new ≡ commit_shelf (kept self.old) (S.meaning shelf.old) slip.number.0 }
+        ensures books { kept self.new ≡ commit_books (kept self.old) (S.meaning shelf.old) slip.number.0 }
+        ensures law { CommitPromise (S.meaning shelf.old) (kept self.old) slip.number.0 (decision result) (S.meaning shelf.new) (kept self.new) }
     {
         self.books.commit(shelf, slip)
     }

@@ -1,4 +1,6 @@
 // The catalogue: editors' transactions on a shelf of cards. Each call's contract has its exact result, and the law that holds over every run.
+#![tactic(auto)]
+
 mod calls;
 
 pub use books::{BooksMemory, NotCommitted, Slip};

@@ -12,7 +12,7 @@ use tables::OpenTable;
 
 // Whether a card's newest version is the one that the transaction in a place has read.
 fn is_current<S: Shelf>(shelf: &S, table: &OpenTable, place: usize, card: CardNo) -> bool
-    ensures { result ≡ is_version (version_read (at (list_of table.now) place).reads card.0) (newest (meaning shelf.now) card.0) }
+    ensures { result ≡ is_version (version_read (at (list_of table.now) place).reads card.0) (newest (S.meaning shelf.now) card.0) }
 {
     match table.version_read(place, card) {
         Some(version) => version.0 == newest_of(shelf, card).0,
@@ -22,7 +22,7 @@ fn is_current<S: Shelf>(shelf: &S, table: &OpenTable, place: usize, card: CardNo
 
 // Whether a card that the transaction in a place has drafted has another newest version than the one read.
 pub fn is_outdated<S: Shelf>(shelf: &S, table: &OpenTable, place: usize) -> bool
-    ensures { result ≡ outdated (meaning shelf.now) (at (list_of table.now) place).reads (at (list_of table.now) place).drafts }
+    ensures { result ≡ outdated (S.meaning shelf.now) (at (list_of table.now) place).reads (at (list_of table.now) place).drafts }
 {
     let mut stale: usize = 0;
     for draft in table.drafts_at(place) {

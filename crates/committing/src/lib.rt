@@ -1,5 +1,7 @@
 // What a commit asks of a shelf, and the versions that it puts. Only the catalogue's own crates use this one: putting drafts asks its caller for
 // the tests that come before.
+#![tactic(auto)]
+
 mod certify;
 mod new_stamp;
 mod shelf_writes;

@@ -15,7 +15,7 @@ use stamps::Stamp;
 
 // Joins the stamp of a version that was read.
 fn join_read<S: Shelf>(stamp: &mut Stamp, shelf: &S, read: ReadEntry)
-    ensures { entries stamp.new ≡ joined (entries stamp.old) (stamps_of (meaning shelf.now) read.card.0 read.version.0) }
+    ensures { entries stamp.new ≡ joined (entries stamp.old) (stamps_of (S.meaning shelf.now) read.card.0 read.version.0) }
 {
     if let Some(other) = shelf.stamp(read.card, read.version) {
         stamp.join(&other);
@@ -24,7 +24,7 @@ fn join_read<S: Shelf>(stamp: &mut Stamp, shelf: &S, read: ReadEntry)
 
 // The greatest of the stamps of all versions read, count by count.
 fn joined_stamp<S: Shelf>(shelf: &S, reads: &[ReadEntry]) -> Stamp
-    ensures { entries result ≡ greatest (stamps_of (meaning shelf.now)) (map reading reads.now) }
+    ensures { entries result ≡ greatest (stamps_of (S.meaning shelf.now)) (map reading reads.now) }
 {
     let mut stamp = Stamp::zero();
     for read in reads {
@@ -45,7 +45,7 @@ fn bump_drafts(stamp: &mut Stamp, drafts: &[DraftEntry])
 // The greatest of all stamps read, plus 1 at each drafted card.
 pub(crate) fn new_stamp<S: Shelf>(shelf: &S, reads: &[ReadEntry], drafts: &[DraftEntry]) -> Stamp
     requires { apart room (draft_cards (map drafting drafts.now)) ≡ true }
-    ensures { entries result ≡ new_count (meaning shelf.now) (map reading reads.now) (map drafting drafts.now) }
+    ensures { entries result ≡ new_count (S.meaning shelf.now) (map reading reads.now) (map drafting drafts.now) }
 {
     let mut stamp = joined_stamp(shelf, reads);
     bump_drafts(&mut stamp, drafts);

@@ -11,7 +11,7 @@ use stamps::{CardNo, TxNo};
 
 // Whether two cards are kept in one drawer.
 fn share<S: Shelf>(shelf: &S, one: CardNo, other: CardNo) -> bool
-    ensures { result ≡ (meaning shelf.now).shares one.0 other.0 }
+    ensures { result ≡ (S.meaning shelf.now).shares one.0 other.0 }
 {
     match shelf.shares(one, other) {
         Some(shared) => shared,
@@ -21,7 +21,7 @@ fn share<S: Shelf>(shelf: &S, one: CardNo, other: CardNo) -> bool
 
 // The free places of a card's drawer, none where the shelf lacks the card.
 fn free_of<S: Shelf>(shelf: &S, card: CardNo) -> u32
-    ensures { result ≡ (meaning shelf.now).free card.0 }
+    ensures { result ≡ (S.meaning shelf.now).free card.0 }
 {
     match shelf.free(card) {
         Some(free) => free,
@@ -31,7 +31,7 @@ fn free_of<S: Shelf>(shelf: &S, card: CardNo) -> u32
 
 // How many of the drafts are for cards in the drawer of a card.
 fn drafts_in_drawer<S: Shelf>(shelf: &S, card: CardNo, drafts: &[DraftEntry]) -> usize
-    ensures { result ≡ in_drawer (meaning shelf.now) card.0 (map drafting drafts.now) }
+    ensures { result ≡ in_drawer (S.meaning shelf.now) card.0 (map drafting drafts.now) }
 {
     let mut count = 0;
     for draft in drafts {
@@ -44,7 +44,7 @@ fn drafts_in_drawer<S: Shelf>(shelf: &S, card: CardNo, drafts: &[DraftEntry]) ->
 
 // Whether the drafts in one drawer outnumber its free places.
 pub fn is_crowded<S: Shelf>(shelf: &S, drafts: &[DraftEntry]) -> bool
-    ensures { result ≡ crowded (meaning shelf.now) (map drafting drafts.now) }
+    ensures { result ≡ crowded (S.meaning shelf.now) (map drafting drafts.now) }
 {
     for draft in drafts {
         if (free_of(shelf, draft.card) as usize) < drafts_in_drawer(shelf, draft.card, drafts) {
@@ -56,9 +56,9 @@ pub fn is_crowded<S: Shelf>(shelf: &S, drafts: &[DraftEntry]) -> bool
 
 // Puts the drafts of a transaction, in rising card order.
 pub fn put_drafts<S: Shelf>(shelf: &mut S, writer: TxNo, reads: &[ReadEntry], drafts: &[DraftEntry])
-    requires listed { apart (meaning shelf.old).cards (draft_cards (map drafting drafts.now)) ≡ true }
-    requires spare { crowded (meaning shelf.old) (map drafting drafts.now) ≡ false }
-    ensures { meaning shelf.new ≡ put_cards (meaning shelf.old) (opening writer.0 (map reading reads.now) (map drafting drafts.now)) (meaning shelf.old).cards }
+    requires listed { apart (S.meaning shelf.old).cards (draft_cards (map drafting drafts.now)) ≡ true }
+    requires spare { crowded (S.meaning shelf.old) (map drafting drafts.now) ≡ false }
+    ensures { meaning shelf.new ≡ put_cards (S.meaning shelf.old) (opening writer.0 (map reading reads.now) (map drafting drafts.now)) (S.meaning shelf.old).cards }
 {
     let width = shelf.width() as usize;
     let counts = new_stamp(shelf, reads, drafts).list();

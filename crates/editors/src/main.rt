@@ -1,4 +1,6 @@
 // The editors' program: reads a script from standard input, carries it out on a shelf, and prints each command with its answer.
+#![tactic(auto)]
+
 ghost use Rattle.std.specs.Prelude.{◌≤◌, length, IfOk};
 
 mod day;

@@ -38,7 +38,7 @@ pub fn log_block<S: Shelf>(
     requires read { apart room (read_cards (map reading reads.now)) ≡ true }
     requires drafted { apart room (draft_cards (map drafting drafts.now)) ≡ true }
     requires space { length reads.now + length drafts.now + 1 ≤ log_room (log_of journal.old) }
-    ensures { (n : ℕ) → apart n (read_cards (map reading reads.now)) ≡ true → apart n (draft_cards (map drafting drafts.now)) ≡ true → log_of journal.new ≡ with_lines (log_of journal.old) (block (meaning shelf.now) (opening number.0 (map reading reads.now) (map drafting drafts.now)) n) }
+    ensures { (n : ℕ) → apart n (read_cards (map reading reads.now)) ≡ true → apart n (draft_cards (map drafting drafts.now)) ≡ true → log_of journal.new ≡ with_lines (log_of journal.old) (block (S.meaning shelf.now) (opening number.0 (map reading reads.now) (map drafting drafts.now)) n) }
 {
     log_each(journal, shelf, number, reads);
     log_each(journal, shelf, number, drafts);

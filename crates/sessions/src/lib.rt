@@ -1,4 +1,6 @@
 // A session: a script of commands carried out on a shelf, and the law of all that is answered.
+#![tactic(auto)]
+
 pub mod answer;
 pub mod command;
 mod file;

@@ -33,7 +33,7 @@ impl Session {
     }
 
     fn set_up<S: Shelf>(&mut self, shelf: &S) -> Answer
-        ensures { Replied (meaning shelf.now) (kept self.old.catalogue) self.old.slips.items commands.SetUp result (meaning shelf.now) (kept self.new.catalogue) self.new.slips.items }
+        ensures { Replied (S.meaning shelf.now) (kept self.old.catalogue) self.old.slips.items commands.SetUp result (S.meaning shelf.now) (kept self.new.catalogue) self.new.slips.items }
     {
         if !self.slips.is_empty() {
             return Answer::SlipsHeld;
@@ -42,7 +42,7 @@ impl Session {
     }
 
     fn open<S: Shelf>(&mut self, shelf: &S) -> Result<Answer, AllocError>
-        ensures { IfOk result (λ a. Replied (meaning shelf.now) (kept self.old.catalogue) self.old.slips.items commands.Open a (meaning shelf.now) (kept self.new.catalogue) self.new.slips.items) }
+        ensures { IfOk result (λ a. Replied (S.meaning shelf.now) (kept self.old.catalogue) self.old.slips.items commands.Open a (S.meaning shelf.now) (kept self.new.catalogue) self.new.slips.items) }
     {
         self.slips.reserve(1)?;
         match self.catalogue.open() {
@@ -56,7 +56,7 @@ impl Session {
     }
 
     fn read<S: Shelf>(&mut self, shelf: &S, number: TxNo, card: CardNo) -> Answer
-        ensures { Replied (meaning shelf.now) (kept self.old.catalogue) self.old.slips.items (commands.Read number card) result (meaning shelf.now) (kept self.new.catalogue) self.new.slips.items }
+        ensures { Replied (S.meaning shelf.now) (kept self.old.catalogue) self.old.slips.items (commands.Read number card) result (S.meaning shelf.now) (kept self.new.catalogue) self.new.slips.items }
     {
         match slip_of(&self.slips, number) {
             Some(slip) => {
@@ -68,7 +68,7 @@ impl Session {
     }
 
     fn draft<S: Shelf>(&mut self, shelf: &S, number: TxNo, card: CardNo, value: Value) -> Answer
-        ensures { Replied (meaning shelf.now) (kept self.old.catalogue) self.old.slips.items (commands.Draft number card value) result (meaning shelf.now) (kept self.new.catalogue) self.new.slips.items }
+        ensures { Replied (S.meaning shelf.now) (kept self.old.catalogue) self.old.slips.items (commands.Draft number card value) result (S.meaning shelf.now) (kept self.new.catalogue) self.new.slips.items }
     {
         match slip_of(&self.slips, number) {
             Some(slip) => {
@@ -81,7 +81,7 @@ impl Session {
 
     // A slip that is handed back is kept.
     fn commit<S: Shelf>(&mut self, shelf: &mut S, number: TxNo) -> Answer
-        ensures { Replied (meaning shelf.old) (kept self.old.catalogue) self.old.slips.items (commands.Commit number) result (meaning shelf.new) (kept self.new.catalogue) self.new.slips.items }
+        ensures { Replied (S.meaning shelf.old) (kept self.old.catalogue) self.old.slips.items (commands.Commit number) result (S.meaning shelf.new) (kept self.new.catalogue) self.new.slips.items }
     {
         let Some(slip) = take_slip(&mut self.slips, number) else {
             return Answer::NoSlip;
@@ -92,7 +92,7 @@ impl Session {
     }
 
     fn abandon<S: Shelf>(&mut self, shelf: &S, number: TxNo) -> Answer
-        ensures { Replied (meaning shelf.now) (kept self.old.catalogue) self.old.slips.items (commands.Abandon number) result (meaning shelf.now) (kept self.new.catalogue) self.new.slips.items }
+        ensures { Replied (S.meaning shelf.now) (kept self.old.catalogue) self.old.slips.items (commands.Abandon number) result (S.meaning shelf.now) (kept self.new.catalogue) self.new.slips.items }
     {
         match take_slip(&mut self.slips, number) {
             Some(slip) => {
@@ -105,14 +105,14 @@ impl Session {
 
     // The slips are kept, and are no longer open.
     fn close<S: Shelf>(&mut self, shelf: &S) -> Answer
-        ensures { Replied (meaning shelf.now) (kept self.old.catalogue) self.old.slips.items commands.Close result (meaning shelf.now) (kept self.new.catalogue) self.new.slips.items }
+        ensures { Replied (S.meaning shelf.now) (kept self.old.catalogue) self.old.slips.items commands.Close result (S.meaning shelf.now) (kept self.new.catalogue) self.new.slips.items }
     {
         self.catalogue.close();
         Answer::Call(Event::Close)
     }
 
     fn journal<S: Shelf>(&self, heap: Global, shelf: &S) -> Result<Answer, AllocError>
-        ensures { IfOk result (λ a. Replied (meaning shelf.now) (kept self.now.catalogue) self.now.slips.items commands.Journal a (meaning shelf.now) (kept self.now.catalogue) self.now.slips.items) }
+        ensures { IfOk result (λ a. Replied (S.meaning shelf.now) (kept self.now.catalogue) self.now.slips.items commands.Journal a (S.meaning shelf.now) (kept self.now.catalogue) self.now.slips.items) }
     {
         let lines = Vec::from_slice(heap, self.catalogue.journal())?;
         Ok(Answer::Journal(lines))
@@ -125,7 +125,7 @@ impl Session {
         shelf: &mut S,
         command: Command,
     ) -> Result<Answer, AllocError>
-        ensures { IfOk result (λ a. Replied (meaning shelf.old) (kept self.old.catalogue) self.old.slips.items command a (meaning shelf.new) (kept self.new.catalogue) self.new.slips.items) }
+        ensures { IfOk result (λ a. Replied (S.meaning shelf.old) (kept self.old.catalogue) self.old.slips.items command a (S.meaning shelf.new) (kept self.new.catalogue) self.new.slips.items) }
     {
         match command {
             Command::SetUp => Ok(self.set_up(shelf)),

@@ -20,8 +20,8 @@ pub fn run<S: Shelf>(
     shelf: &mut S,
     script: &[Command],
 ) -> Result<Vec<Answer>, AllocError>
-    ensures exact { IfOk result (λ v. DoneExactly (meaning shelf.old) (new_state (record { places = vec_len memory.places; reads = vec_len memory.reads; drafts = vec_len memory.drafts; lines = vec_len memory.lines })) script.now v.items (meaning shelf.new)) }
-    ensures law { IfOk result (λ v. SessionLaw (meaning shelf.old) script.now v.items (meaning shelf.new)) }
+    ensures exact { IfOk result (λ v. DoneExactly (S.meaning shelf.old) (new_state (record { places = vec_len memory.places; reads = vec_len memory.reads; drafts = vec_len memory.drafts; lines = vec_len memory.lines })) script.now v.items (S.meaning shelf.new)) }
+    ensures law { IfOk result (λ v. SessionLaw (S.meaning shelf.old) script.now v.items (S.meaning shelf.new)) }
 {
     let mut session = Session::new(heap, memory);
     let answers = answer_all(&mut session, heap, shelf, script);
@@ -37,7 +37,7 @@ fn answer_all<S: Shelf>(
     script: &[Command],
 ) -> Result<Vec<Answer>, AllocError>
     requires { session.old.slips.items ≡ [] }
-    ensures { IfOk result (λ v. Ran (meaning shelf.old) (kept session.old.catalogue) script.now v.items (meaning shelf.new) (kept session.new.catalogue) session.new.slips.items) }
+    ensures { IfOk result (λ v. Ran (S.meaning shelf.old) (kept session.old.catalogue) script.now v.items (S.meaning shelf.new) (kept session.new.catalogue) session.new.slips.items) }
 {
     let mut answers = Vec::new(heap);
     for command in script {

@@ -1,4 +1,6 @@
 // What a transaction sees of a shelf: the versions that fit what it has read. Anyone may use this crate.
+#![tactic(auto)]
+
 mod shelf_reads;
 mod view;
 

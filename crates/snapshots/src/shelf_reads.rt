@@ -12,7 +12,7 @@ use stamps::{CardNo, VersionNo};
 
 // The number of a card's newest version, 0 where the shelf lacks the card.
 pub fn newest_of<S: Shelf>(shelf: &S, card: CardNo) -> VersionNo
-    ensures { result.0 ≡ newest (meaning shelf.now) card.0 }
+    ensures { result.0 ≡ newest (S.meaning shelf.now) card.0 }
 {
     match shelf.newest(card) {
         Some(version) => version,
@@ -22,7 +22,7 @@ pub fn newest_of<S: Shelf>(shelf: &S, card: CardNo) -> VersionNo
 
 // Whether a card has a version above 0.
 pub fn any_written<S: Shelf>(shelf: &S) -> bool
-    ensures { result ≡ any_written (meaning shelf.now) (meaning shelf.now).cards }
+    ensures { result ≡ any_written (S.meaning shelf.now) (S.meaning shelf.now).cards }
 {
     for card in 0..shelf.cards() {
         if newest_of(shelf, CardNo(card)).0 > 0 {
@@ -34,7 +34,7 @@ pub fn any_written<S: Shelf>(shelf: &S) -> bool
 
 // Whether the shelf lacks a version that was read.
 pub fn lacks_any<S: Shelf>(shelf: &S, reads: &[ReadEntry]) -> bool
-    ensures { result ≡ lacks (meaning shelf.now) (map reading reads.now) }
+    ensures { result ≡ lacks (S.meaning shelf.now) (map reading reads.now) }
 {
     for entry in reads {
         if shelf.writer(entry.card, entry.version).is_none() {
@@ -47,7 +47,7 @@ pub fn lacks_any<S: Shelf>(shelf: &S, reads: &[ReadEntry]) -> bool
 // Whether a version of a card fits a card that was read: its count for that card is at most the version read, and its number is at
 // least the count for it in the stamp of the version read.
 fn fits_entry<S: Shelf>(shelf: &S, card: CardNo, version: VersionNo, entry: ReadEntry) -> bool
-    ensures { result ≡ fits_one (meaning shelf.now) card.0 version.0 (reading entry) }
+    ensures { result ≡ fits_one (S.meaning shelf.now) card.0 version.0 (reading entry) }
 {
     let count = shelf.entry(card, version, entry.card).unwrap_or(0);
     let counted = shelf.entry(entry.card, entry.version, card).unwrap_or(0);
@@ -56,7 +56,7 @@ fn fits_entry<S: Shelf>(shelf: &S, card: CardNo, version: VersionNo, entry: Read
 
 // The newest version of a card that fits all cards read.
 pub fn newest_that_fits<S: Shelf>(shelf: &S, reads: &[ReadEntry], card: CardNo) -> Option<VersionNo>
-    ensures { option_map (λ v. v.0) result ≡ newest_fit (meaning shelf.now) (map reading reads.now) card.0 (newest (meaning shelf.now) card.0) }
+    ensures { option_map (λ v. v.0) result ≡ newest_fit (S.meaning shelf.now) (map reading reads.now) card.0 (newest (S.meaning shelf.now) card.0) }
 {
     let mut n = newest_of(shelf, card).0;
     let found = 'versions: loop {

@@ -17,7 +17,7 @@ pub fn seen<S: Shelf>(
     card: CardNo,
     version: VersionNo,
 ) -> Reading
-    ensures { result ≡ record { version = version; value = draft_of (at (list_of table.now) place).drafts card.0 (value_at (meaning shelf.now) card.0 version.0) } }
+    ensures { result ≡ record { version = version; value = draft_of (at (list_of table.now) place).drafts card.0 (value_at (S.meaning shelf.now) card.0 version.0) } }
 {
     let value = match table.draft_of(place, card) {
         Some(value) => value,

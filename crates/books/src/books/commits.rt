@@ -16,7 +16,7 @@ use transactions::Refusal;
 impl Books {
     // Whether the transaction in a place is committed; without drafts nothing is tested.
     fn decide<S: Shelf>(&self, shelf: &S, place: usize) -> Result<(), Refusal>
-        ensures { result ≡ commit_of (state_of self.now) (meaning shelf.now) (at (state_of self.now).places place) (at (state_of self.now).places place).drafts }
+        ensures { result ≡ commit_of (state_of self.now) (S.meaning shelf.now) (at (state_of self.now).places place) (at (state_of self.now).places place).drafts }
     {
         let drafts = self.table.drafts_at(place);
         if drafts.is_empty() {
@@ -41,9 +41,9 @@ impl Books {
     fn write_out<S: Shelf>(&mut self, shelf: &mut S, place: usize, number: TxNo)
         requires taken { taken (state_of self.old).places place ≡ true }
         requires number { (at (state_of self.old).places place).number ≡ number.0 }
-        requires granted { decision (state_of self.old) (meaning shelf.old) (at (state_of self.old).places place) ≡ Ok tt }
-        ensures shelf { meaning shelf.new ≡ put_cards (meaning shelf.old) (at (state_of self.old).places place) (state_of self.old).cards }
-        ensures books { state_of self.new ≡ with_journal (state_of self.old) ((state_of self.old).journal ++ block (meaning shelf.old) (at (state_of self.old).places place) (state_of self.old).cards) }
+        requires granted { decision (state_of self.old) (S.meaning shelf.old) (at (state_of self.old).places place) ≡ Ok tt }
+        ensures shelf { meaning shelf.new ≡ put_cards (S.meaning shelf.old) (at (state_of self.old).places place) (state_of self.old).cards }
+        ensures books { state_of self.new ≡ with_journal (state_of self.old) ((state_of self.old).journal ++ block (S.meaning shelf.old) (at (state_of self.old).places place) (state_of self.old).cards) }
     {
         let reads = self.table.reads_at(place);
         let drafts = self.table.drafts_at(place);
@@ -55,9 +55,9 @@ impl Books {
     fn carry_out<S: Shelf>(&mut self, shelf: &mut S, place: usize, number: TxNo)
         requires taken { taken (state_of self.old).places place ≡ true }
         requires number { (at (state_of self.old).places place).number ≡ number.0 }
-        requires granted { commit_of (state_of self.old) (meaning shelf.old) (at (state_of self.old).places place) (at (state_of self.old).places place).drafts ≡ Ok tt }
-        ensures shelf { meaning shelf.new ≡ shelf_with (state_of self.old) (meaning shelf.old) (at (state_of self.old).places place).drafts (at (state_of self.old).places place) }
-        ensures books { state_of self.new ≡ with_journal (with_places (state_of self.old) (slice_set (state_of self.old).places place None)) (journal_with (state_of self.old) (meaning shelf.old) (at (state_of self.old).places place).drafts (at (state_of self.old).places place)) }
+        requires granted { commit_of (state_of self.old) (S.meaning shelf.old) (at (state_of self.old).places place) (at (state_of self.old).places place).drafts ≡ Ok tt }
+        ensures shelf { meaning shelf.new ≡ shelf_with (state_of self.old) (S.meaning shelf.old) (at (state_of self.old).places place).drafts (at (state_of self.old).places place) }
+        ensures books { state_of self.new ≡ with_journal (with_places (state_of self.old) (slice_set (state_of self.old).places place None)) (journal_with (state_of self.old) (S.meaning shelf.old) (at (state_of self.old).places place).drafts (at (state_of self.old).places place)) }
     {
         if self.table.drafts_at(place).is_empty() {
             self.table.release(place);
@@ -79,9 +79,9 @@ impl Books {
 
     // Decides on a transaction, by its number, and commits it if nothing speaks against it.
     fn settle<S: Shelf>(&mut self, shelf: &mut S, number: TxNo) -> Result<(), Refusal>
-        ensures answer { result ≡ commit_answer (state_of self.old) (meaning shelf.old) number.0 }
-        ensures shelf { meaning shelf.new ≡ commit_shelf (state_of self.old) (meaning shelf.old) number.0 }
-        ensures books { state_of self.new ≡ commit_books (state_of self.old) (meaning shelf.old) number.0 }
+        ensures answer { result ≡ commit_answer (state_of self.old) (S.meaning shelf.old) number.0 }
+        ensures shelf { meaning shelf.new ≡ commit_shelf (state_of self.old) (S.meaning shelf.old) number.0 }
+        ensures books { state_of self.new ≡ commit_books (state_of self.old) (S.meaning shelf.old) number.0 }
     {
         let place = self.place_of(number)?;
         match self.decide(shelf, place) {
@@ -98,9 +98,9 @@ impl Books {
 
     // Commits a transaction, or hands its slip back; at a conflict the transaction ends and the slip is spent.
     pub fn commit<S: Shelf>(&mut self, shelf: &mut S, slip: Slip) -> Result<(), NotCommitted>
-        ensures answer { result ≡ handed slip (commit_answer (state_of self.old) (meaning shelf.old) slip.number.0) }
-        ensures shelf { meaning shelf.new ≡ commit_shelf (state_of self.old) (meaning shelf.old) slip.number.0 }
-        ensures books { state_of self.new ≡ commit_books (state_of self.old) (meaning shelf.old) slip.number.0 }
+        ensures answer { result ≡ handed slip (commit_answer (state_of self.old) (S.meaning shelf.old) slip.number.0) }
+        ensures shelf { meaning shelf.new ≡ commit_shelf (state_of self.old) (S.meaning shelf.old) slip.number.0 }
+        ensures books { state_of self.new ≡ commit_books (state_of self.old) (S.meaning shelf.old) slip.number.0 }
     {
         let settled = self.settle(shelf, slip.number);
         hand_in(slip, settled)

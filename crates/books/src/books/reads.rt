@@ -18,7 +18,7 @@ use transactions::{Reading, Refusal};
 impl Books {
     // Whether the shelf is another than that of set-up, by its cards, its width or a version that the transaction in a place has read.
     pub(super) fn is_other<S: Shelf>(&self, shelf: &S, place: usize) -> bool
-        ensures { result ≡ other_shelf (state_of self.now) (meaning shelf.now) (at (state_of self.now).places place).reads }
+        ensures { result ≡ other_shelf (state_of self.now) (S.meaning shelf.now) (at (state_of self.now).places place).reads }
     {
         if shelf.cards() as usize != self.table.cards() || shelf.width() != self.width {
             return true;
@@ -28,7 +28,7 @@ impl Books {
 
     // Whether the transaction in a place may read a card.
     fn may_read<S: Shelf>(&self, shelf: &S, place: usize, card: CardNo) -> Result<(), Refusal>
-        ensures { result ≡ read_tests (state_of self.now) (meaning shelf.now) card.0 (at (state_of self.now).places place) }
+        ensures { result ≡ read_tests (state_of self.now) (S.meaning shelf.now) card.0 (at (state_of self.now).places place) }
     {
         if card.0 as usize >= self.table.cards() {
             return Err(Refusal::NoCard);
@@ -49,8 +49,8 @@ impl Books {
         requires taken { taken (state_of self.old).places place ≡ true }
         requires listed { card.0 < (state_of self.old).cards }
         requires unread { has_read (at (state_of self.old).places place).reads card.0 ≡ false }
-        ensures answer { result ≡ read_first (meaning shelf.now) (at (state_of self.old).places place) card.0 }
-        ensures books { state_of self.new ≡ read_place (state_of self.old) place card.0 (read_first (meaning shelf.now) (at (state_of self.old).places place) card.0) }
+        ensures answer { result ≡ read_first (S.meaning shelf.now) (at (state_of self.old).places place) card.0 }
+        ensures books { state_of self.new ≡ read_place (state_of self.old) place card.0 (read_first (S.meaning shelf.now) (at (state_of self.old).places place) card.0) }
     {
         let Some(version) = newest_that_fits(shelf, self.table.reads_at(place), card) else {
             return Err(Refusal::OtherShelf);
@@ -67,8 +67,8 @@ impl Books {
         slip: &Slip,
         card: CardNo,
     ) -> Result<Reading, Refusal>
-        ensures answer { result ≡ read_answer (state_of self.old) (meaning shelf.now) slip.now.number.0 card.0 }
-        ensures books { state_of self.new ≡ after_read (state_of self.old) (meaning shelf.now) slip.now.number.0 card.0 }
+        ensures answer { result ≡ read_answer (state_of self.old) (S.meaning shelf.now) slip.now.number.0 card.0 }
+        ensures books { state_of self.new ≡ after_read (state_of self.old) (S.meaning shelf.now) slip.now.number.0 card.0 }
     {
         let place = self.place_of(slip.number)?;
         self.may_read(shelf, place, card)?;

@@ -11,7 +11,7 @@ use transactions::Refusal;
 
 // Whether books, if they are long enough, may be set up with the shelf.
 fn check_shelf<S: Shelf>(shelf: &S) -> Result<(), Refusal>
-    ensures { result ≡ shelf_tests (meaning shelf.now) }
+    ensures { result ≡ shelf_tests (S.meaning shelf.now) }
 {
     let cards = shelf.cards();
     if cards == 0 {
@@ -29,8 +29,8 @@ fn check_shelf<S: Shelf>(shelf: &S) -> Result<(), Refusal>
 impl Books {
     // Makes the books empty, for the transactions on this shelf.
     pub fn set_up<S: Shelf>(&mut self, shelf: &S) -> Result<(), Refusal>
-        ensures answer { result ≡ set_up_answer (state_of self.old) (meaning shelf.now) }
-        ensures books { state_of self.new ≡ after_set_up (state_of self.old) (meaning shelf.now) }
+        ensures answer { result ≡ set_up_answer (state_of self.old) (S.meaning shelf.now) }
+        ensures books { state_of self.new ≡ after_set_up (state_of self.old) (S.meaning shelf.now) }
     {
         check_shelf(shelf)?;
         if !self.table.lay_out(shelf.cards()) {

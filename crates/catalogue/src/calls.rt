@@ -74,7 +74,7 @@ impl Catalogue {
     // Commits a transaction, or hands its slip back; at a conflict the transaction ends and the slip is spent.
     pub fn commit<S: Shelf>(&mut self, shelf: &mut S, slip: Slip) -> Result<(), NotCommitted>
         ensures answer { result ≡ handed slip (commit_answer (kept self.old) (S.meaning shelf.old) slip.number.0) }
-        ensures shelf { meaning shelf.new ≡ commit_shelf (kept self.old) (S.meaning shelf.old) slip.number.0 }
+        ensures shelf { S.meaning shelf.new ≡ commit_shelf (kept self.old) (S.meaning shelf.old) slip.number.0 }
         ensures books { kept self.new ≡ commit_books (kept self.old) (S.meaning shelf.old) slip.number.0 }
         ensures law { CommitPromise (S.meaning shelf.old) (kept self.old) slip.number.0 (decision result) (S.meaning shelf.new) (kept self.new) }
     {

@@ -58,7 +58,7 @@ pub fn is_crowded<S: Shelf>(shelf: &S, drafts: &[DraftEntry]) -> bool
 pub fn put_drafts<S: Shelf>(shelf: &mut S, writer: TxNo, reads: &[ReadEntry], drafts: &[DraftEntry])
     requires listed { apart (S.meaning shelf.old).cards (draft_cards (map drafting drafts.now)) ≡ true }
     requires spare { crowded (S.meaning shelf.old) (map drafting drafts.now) ≡ false }
-    ensures { meaning shelf.new ≡ put_cards (S.meaning shelf.old) (opening writer.0 (map reading reads.now) (map drafting drafts.now)) (S.meaning shelf.old).cards }
+    ensures { S.meaning shelf.new ≡ put_cards (S.meaning shelf.old) (opening writer.0 (map reading reads.now) (map drafting drafts.now)) (S.meaning shelf.old).cards }
 {
     let width = shelf.width() as usize;
     let counts = new_stamp(shelf, reads, drafts).list();

@@ -42,7 +42,7 @@ impl Books {
         requires taken { taken (state_of self.old).places place ≡ true }
         requires number { (at (state_of self.old).places place).number ≡ number.0 }
         requires granted { decision (state_of self.old) (S.meaning shelf.old) (at (state_of self.old).places place) ≡ Ok tt }
-        ensures shelf { meaning shelf.new ≡ put_cards (S.meaning shelf.old) (at (state_of self.old).places place) (state_of self.old).cards }
+        ensures shelf { S.meaning shelf.new ≡ put_cards (S.meaning shelf.old) (at (state_of self.old).places place) (state_of self.old).cards }
         ensures books { state_of self.new ≡ with_journal (state_of self.old) ((state_of self.old).journal ++ block (S.meaning shelf.old) (at (state_of self.old).places place) (state_of self.old).cards) }
     {
         let reads = self.table.reads_at(place);
@@ -56,7 +56,7 @@ impl Books {
         requires taken { taken (state_of self.old).places place ≡ true }
         requires number { (at (state_of self.old).places place).number ≡ number.0 }
         requires granted { commit_of (state_of self.old) (S.meaning shelf.old) (at (state_of self.old).places place) (at (state_of self.old).places place).drafts ≡ Ok tt }
-        ensures shelf { meaning shelf.new ≡ shelf_with (state_of self.old) (S.meaning shelf.old) (at (state_of self.old).places place).drafts (at (state_of self.old).places place) }
+        ensures shelf { S.meaning shelf.new ≡ shelf_with (state_of self.old) (S.meaning shelf.old) (at (state_of self.old).places place).drafts (at (state_of self.old).places place) }
         ensures books { state_of self.new ≡ with_journal (with_places (state_of self.old) (slice_set (state_of self.old).places place None)) (journal_with (state_of self.old) (S.meaning shelf.old) (at (state_of self.old).places place).drafts (at (state_of self.old).places place)) }
     {
         if self.table.drafts_at(place).is_empty() {
@@ -80,7 +80,7 @@ impl Books {
     // Decides on a transaction, by its number, and commits it if nothing speaks against it.
     fn settle<S: Shelf>(&mut self, shelf: &mut S, number: TxNo) -> Result<(), Refusal>
         ensures answer { result ≡ commit_answer (state_of self.old) (S.meaning shelf.old) number.0 }
-        ensures shelf { meaning shelf.new ≡ commit_shelf (state_of self.old) (S.meaning shelf.old) number.0 }
+        ensures shelf { S.meaning shelf.new ≡ commit_shelf (state_of self.old) (S.meaning shelf.old) number.0 }
         ensures books { state_of self.new ≡ commit_books (state_of self.old) (S.meaning shelf.old) number.0 }
     {
         let place = self.place_of(number)?;
@@ -99,7 +99,7 @@ impl Books {
     // Commits a transaction, or hands its slip back; at a conflict the transaction ends and the slip is spent.
     pub fn commit<S: Shelf>(&mut self, shelf: &mut S, slip: Slip) -> Result<(), NotCommitted>
         ensures answer { result ≡ handed slip (commit_answer (state_of self.old) (S.meaning shelf.old) slip.number.0) }
-        ensures shelf { meaning shelf.new ≡ commit_shelf (state_of self.old) (S.meaning shelf.old) slip.number.0 }
+        ensures shelf { S.meaning shelf.new ≡ commit_shelf (state_of self.old) (S.meaning shelf.old) slip.number.0 }
         ensures books { state_of self.new ≡ commit_books (state_of self.old) (S.meaning shelf.old) slip.number.0 }
     {
         let settled = self.settle(shelf, slip.number);

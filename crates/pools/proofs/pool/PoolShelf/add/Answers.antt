@@ -32,40 +32,23 @@ invariant_of-self c =
     let all = all_known cs n x long told led jump.told jump.led s.linked in
     let newest = all_newest cs n x long told led jump.told jump.led ls s.cards room s.current in
     let more : suc n ≡ n + 1 = omega arith in
-    let number : suc l.number ≡ l.number + 1 = omega arith in (
-      s.few,
-      (
-        s.narrow,
-        (
-          s.sized,
-          (
-            omega (arith, c.requires.free),
-            (
-              s.listed,
-              (
-                s.chained,
-                (
-                  omega (arith, s.entered, c.write.ensures.entries_len),
-                  (
-                    omega (arith, s.stamped, c.write.ensures.stamps_len),
-                    (
-                      (λ q h. all q (omega arith)),
-                      (
-                        (λ e h.
-                            subst (λ (y : Link). newest_known (set cs n x) (n + 1) (set ls d y) e ≡ true) (sym c.next.ensures)
-                            (subst (λ m. newest_known (set cs n x) m (set ls d (record { number = l.number + 1; place = n })) e ≡ true) more
-                            (subst (λ m. newest_known (set cs n x) (suc n) (set ls d (record { number = m; place = n })) e ≡ true) number (newest e h)))),
-                        tt,
-                      ),
-                    ),
-                  ),
-                ),
-              ),
-            ),
-          ),
-        ),
-      ),
-    )
+    let number : suc l.number ≡ l.number + 1 = omega arith in
+    record {
+      few = s.few;
+      narrow = s.narrow;
+      sized = s.sized;
+      filled = omega (arith, c.requires.free);
+      listed = s.listed;
+      chained = s.chained;
+      entered = omega (arith, s.entered, c.write.ensures.entries_len);
+      stamped = omega (arith, s.stamped, c.write.ensures.stamps_len);
+      linked = λ q h. all q (omega arith);
+      current =
+          λ e h.
+          subst (λ (y : Link). newest_known (set cs n x) (n + 1) (set ls d y) e ≡ true) (sym c.next.ensures)
+          (subst (λ m. newest_known (set cs n x) m (set ls d (record { number = l.number + 1; place = n })) e ≡ true) more
+          (subst (λ m. newest_known (set cs n x) (suc n) (set ls d (record { number = m; place = n })) e ≡ true) number (newest e h)));
+    }
 
 pub returns : goal.returns
 returns c =

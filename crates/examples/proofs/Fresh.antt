@@ -1,6 +1,6 @@
 -- A fresh shelf keeps the laws of shelves.
 use Rattle.std.proofs.Common.{ℕ, ◌+◌, ◌≤◌, Bool, true, false, cond, ltb, List, [], ◌∷◌, length, sym, refl, ap, subst, arith}
-use Rattle.std.specs.List.{slice_get, AllByRecursion as All}
+use Rattle.std.specs.List.{slice_get, AllByRecursion}
 use Rattle.std.proofs.lemmas.Bool.{lt-ltb, le-ltb}
 use Rattle.std.proofs.lemmas.Bool.Decides.{nat_tests}
 use Rattle.shelf.specs.Meaning.{Version, first_version}
@@ -11,7 +11,7 @@ use Rattle.examples.specs.Days.{fresh_shelf}
 abbrev versions : Bool → List Version
 versions b = cond b (first_version ∷ []) []
 
-zeros : (n : ℕ) (b : Bool) → All (Narrow n) (versions b)
+zeros : (n : ℕ) (b : Bool) → AllByRecursion (Narrow n) (versions b)
 zeros n true = (λ i. (omega arith, λ h. refl), tt)
 zeros n false = tt
 

@@ -2,7 +2,7 @@
 --     start                       the books after set-up
 --     computed e, wanted e        what a computation gives for the example e; what it has to give for e to hold
 use Rattle.std.proofs.Common.{◌≡◌, ℕ, ◌%◌, ◌≤◌, Bool, true, false, cond, eqb, ltb, List, [], ◌∷◌, map, length, Some, Ok, Err, Option, Result, sym, refl, ap, ◌∙◌, arith}
-use Rattle.std.specs.List.{AllByRecursion as All}
+use Rattle.std.specs.List.{AllByRecursion}
 use Rattle.std.proofs.lemmas.Bool.{le-ltb}
 use Rattle.records.specs.declared.fault.RecordFault.TheVariants as faults
 use Rattle.records.specs.declared.line.Line.{Line}
@@ -65,12 +65,12 @@ holds (day ss) e =
     let so : answers start (fresh_shelf 3) ss ≡ expected ss = cc in
     (fresh_sound 3 (omega arith), refl, every_run ss start (fresh_shelf 3) start.places start.places nobody so)
 
-all_hold : (es : List Example) → map computed es ≡ map wanted es → All Holds es
+all_hold : (es : List Example) → map computed es ≡ map wanted es → AllByRecursion Holds es
 all_hold [] same = tt
 all_hold (e ∷ es) same =
     let here : computed e ≡ wanted e = cc in
     let rest : map computed es ≡ map wanted es = cc in
     (holds e here, all_hold es rest)
 
-pub shown : All Holds examples
+pub shown : AllByRecursion Holds examples
 shown = all_hold examples refl

@@ -1,6 +1,6 @@
 -- The puts of a commit keep the laws of a shelf.
 use Rattle.std.proofs.Common.{◌≡◌, ℕ, zero, suc, pred, ◌+◌, ◌<◌, ◌≤◌, min, Bool, true, false, cond, eqb, ltb, ◌⊎◌, List, [], ◌∷◌, ◌++◌, length, Some, None, Option, unwrap_or, sym, refl, ap, ◌∙◌, subst, inl, inr, arith, length-append}
-use Rattle.std.specs.List.{slice_get, AllByRecursion as All}
+use Rattle.std.specs.List.{slice_get, AllByRecursion}
 use Rattle.std.specs.Option.{option_map}
 use Rattle.std.proofs.ByRecursion.{All-push}
 use Rattle.std.proofs.lemmas.Bool.{cases_eq, both_ways, cond-true, cond-false, le-ltb, eq-eqb, ne_eqb}
@@ -16,7 +16,7 @@ use Rattle.transactions.specs.Committing.{crowded, new_count, new_version, put_c
 use Rattle.transactions.proofs.Places.{none_some, some_same, nth_stays}
 use Rattle.transactions.proofs.Putting.{puts_cards, puts_width, put_room}
 
-all_at : (P : Version → Type 0) (vs : List Version) (k : ℕ) (v : Version) → All P vs → slice_get vs k ≡ Some v → P v
+all_at : (P : Version → Type 0) (vs : List Version) (k : ℕ) (v : Version) → AllByRecursion P vs → slice_get vs k ≡ Some v → P v
 all_at P [] k v a e = absurd (none_some e)
 all_at P (u ∷ vs) zero v a e = subst P (some_same e) a.0
 all_at P (u ∷ vs) (suc k) v a e = all_at P vs k v a.1 e
@@ -52,7 +52,7 @@ module _ (m : Meaning) (s : Sound m) (c : ℕ) (v : Version) (lc : c < m.cards) 
   sound_first d ld true = nth_stays (m.line d) (v ∷ []) 0 first_version (s.first d ld)
   sound_first d ld false = s.first d ld
 
-  sound_stamps : (d : ℕ) (b : Bool) → All (Narrow m.width) (cond b (m.line d ++ (v ∷ [])) (m.line d))
+  sound_stamps : (d : ℕ) (b : Bool) → AllByRecursion (Narrow m.width) (cond b (m.line d ++ (v ∷ [])) (m.line d))
   sound_stamps d true = All-push (Narrow m.width) (m.line d) v (s.stamps d) w
   sound_stamps d false = s.stamps d
 

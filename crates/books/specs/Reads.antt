@@ -3,7 +3,7 @@
 --     read_tests b m x o          whether the open transaction o may read card x on the shelf m
 --     read_first m o x            its first read of card x
 --     read_place b i x r          the books after a first read in place i that answered r
-use Rattle.std.specs.Prelude.{ℕ, cond, set, Some, Ok, Err, Result, ◌==◌, nat_lt, slice_set}
+use Rattle.std.specs.Prelude.{ℕ, cond, Some, Ok, Err, Result, ◌==◌, nat_lt, slice_set}
 use Rattle.shelf.specs.Meaning.{Meaning, newest}
 use Rattle.transactions.specs.declared.reading.Reading.{Reading as Answer}
 use Rattle.transactions.specs.declared.refusal.Refusal.{Refusal}

@@ -16,7 +16,7 @@ returns-in_err-may_draft c =
     let x = c.args.card.0 in
     let i = c.in_ok-place.place in
     let found = found_there (last_at (numbered n) b.places) i (sym c.place_of.ensures ∙ c.in_ok-place.was) in
-    let p = err_from_is_err_and c.from-residual-in_err-may_draft.result c.from-residual-in_err-may_draft.ensures.1 in
+    let p = err_from_is_err_and c.from_residual-in_err-may_draft.result c.from_residual-in_err-may_draft.ensures.1 in
     let answer = sym c.in_err-may_draft.was ∙ c.may_draft.ensures ∙ sym (ap (draft_by b x) (held_is b n i found)) in
     record {
       answer = p.1 ∙ ap Err p.2 ∙ answer;

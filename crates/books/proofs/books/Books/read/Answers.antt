@@ -18,7 +18,7 @@ returns-in_err-may_read g c =
     let i = c.in_ok-place.place in
     let f = c.in_err-may_read.field-0.0 in
     let found = found_there (last_at (numbered n) b.places) i (sym c.place_of.ensures ∙ c.in_ok-place.was) in
-    let p = err_from_is_err_and c.from-residual-in_err-may_read.result c.from-residual-in_err-may_read.ensures.1 in
+    let p = err_from_is_err_and c.from_residual-in_err-may_read.result c.from_residual-in_err-may_read.ensures.1 in
     let failed = sym c.may_read.ensures ∙ c.in_err-may_read.was in
     record {
       answer = p.1 ∙ ap Err p.2 ∙ sym (read_refused b m n c.args.card.0 i found f failed);

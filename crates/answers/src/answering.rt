@@ -1,6 +1,7 @@
 ghost use Rattle.std.specs.Prelude.{◌≡◌, ◌≤◌, List, length, replicate, Ok};
 ghost use Rattle.records.specs.declared.line.Line.{Line};
-ghost use Rattle.rules.specs.Rules.{accepted};
+ghost use Rattle.records.specs.Parts.{records_in};
+ghost use Rattle.rules.specs.Rules.{accepted, scanned};
 ghost use Rattle.digest.specs.Entries.{Sound};
 ghost use Rattle.digest.specs.Told.{Told};
 ghost use Rattle.verdicts.specs.Verdicts.{Judged};
@@ -13,9 +14,11 @@ use digest::{Entry, index};
 use reach::PLACES;
 use verdicts::Verdict;
 
-// What the judge says of a file that is accepted with these marks; what it says of any other means nothing. No mark is left set.
+// What the judge says of a file that is accepted with these marks, or whose records, no more than there are marks for, are good and in place;
+// what it says of any other means nothing. No mark is left set.
 pub fn judged(file: &[u8], marks: &mut [u32]) -> Verdict
     ensures verdict { (ls : List Line) → accepted file.now (length marks.old) ≡ Ok ls → Judged ls result }
+    ensures good { records_in file.now ≤ 2048 → records_in file.now ≤ length marks.old → (ls : List Line) → scanned file.now (records_in file.now) ≡ Ok ls → Judged ls result }
     ensures clear { marks.new ≡ replicate (length marks.old) 0 }
 {
     let mut table = [Entry::BLANK; PLACES];

@@ -1,4 +1,6 @@
 // The answers to the three questions that the judge is asked, from the entries of a file's records.
+#![tactic(auto)]
+
 mod answering;
 mod commits;
 mod conflicts;

@@ -16,8 +16,7 @@ use Rattle.scan.specs.declared.deed.Deed.TheVariants.{Ended, Read, Written}
 use Rattle.stamps.specs.declared.numbers.TxNo.{TxNo}
 use Rattle.reach.specs.Links.{from, Last}
 use Rattle.std.proofs.lemmas.Bool.Decides.{eqb_tells}
-use Rattle.std.proofs.lemmas.List.{get_or_append_left}
-use lib.Seq.{get_or_at}
+use Rattle.std.proofs.lemmas.List.{get_or_append_left, get_or_at}
 
 or_false : (a : Bool) → (a || false) ≡ a
 or_false true = refl

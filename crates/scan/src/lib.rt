@@ -1,4 +1,6 @@
 // The tests of a history file by its rules, in their order.
+#![tactic(auto)]
+
 mod acceptance;
 mod deed;
 mod place;

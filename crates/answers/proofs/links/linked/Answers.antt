@@ -29,7 +29,7 @@ one_more key es n a g h r l small in' is added took =
 
 pub loop-place-init : goal.loop-place-init
 loop-place-init c = record {
-  own = subst (λ (xs : List (ℕ × ℕ)). Linked own_node c.args.entries.now 0 xs) (sym c.new_own.ensures) (linked_none own_node c.args.entries.now);
+  own = subst (λ (xs : List (ℕ × ℕ)). Linked own_node c.args.entries.now 0 xs) (sym c.new-own.ensures) (linked_none own_node c.args.entries.now);
   writs = subst (λ (xs : List (ℕ × ℕ)). Linked writ_node c.args.entries.now 0 xs) (sym c.new-writs.ensures) (linked_none writ_node c.args.entries.now);
 }
 

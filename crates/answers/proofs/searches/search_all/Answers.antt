@@ -1,5 +1,5 @@
 use Rattle.std.proofs.Common.{◌≡◌, ℕ, ◌+◌, ◌<◌, ◌≤◌, Bool, not, ◌&&◌, List, length, sym, refl, ap, ◌∙◌, subst, arith}
-use lib.ListN.{length-replicate}
+use Rattle.std.proofs.lemmas.List.{length-replicate}
 use Rattle.reach.specs.Paths.{edges, Marked}
 use Rattle.reach.specs.Searches.{Clear}
 use Rattle.reach.specs.declared.queue.Queue.{Queue}

@@ -17,8 +17,8 @@ loop-link-init c =
     let ms = c.args.marks.now in
     let r = c.args.read.now in
     let m = r.card.0 % 2048 in
-    let last : Last gs m (length gs) c.newest_link.result = c.newest_link.ensures in
-    (omega (arith, last.below, c.requires.listed.writs.each), last.here, none_newest writ_node es (length es) gs c.requires.listed.writs _ m c.newest_link.result (only_newer es ms r) last)
+    let last : Last gs m (length gs) c.newest-link.result = c.newest-link.ensures in
+    (omega (arith, last.below, c.requires.listed.writs.each), last.here, none_newest writ_node es (length es) gs c.requires.listed.writs _ m c.newest-link.result (only_newer es ms r) last)
 
 pub loop-link-smaller : goal.loop-link-smaller
 loop-link-smaller c =

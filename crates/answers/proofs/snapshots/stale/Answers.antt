@@ -18,8 +18,8 @@ loop-link-init c =
     let ms = c.args.marks.now in
     let o = c.args.owner in
     let m = o in
-    let last : Last gs m (length gs) c.newest_link.result = c.newest_link.ensures in
-    (omega (arith, last.below, c.requires.listed.own.each), last.here, none_newest own_node es (length es) gs c.requires.listed.own _ m c.newest_link.result (only_own_reads es ms o) last)
+    let last : Last gs m (length gs) c.newest-link.result = c.newest-link.ensures in
+    (omega (arith, last.below, c.requires.listed.own.each), last.here, none_newest own_node es (length es) gs c.requires.listed.own _ m c.newest-link.result (only_own_reads es ms o) last)
 
 pub loop-link-smaller : goal.loop-link-smaller
 loop-link-smaller c =

@@ -22,8 +22,8 @@ ended bs cs i n j e f h = subst (λ (xs : List ℕ). Ended xs n j) e (subst (λ 
 pub loop-part-init : goal.loop-part-init
 loop-part-init c = (c.new-reader.ensures.bytes, c.new-reader.ensures.place, omega arith, omega arith, omega arith, refl, subst (λ (xs : List (ℕ × ℕ)). Linked tx_node (take 0 c.args.entries.now) 0 xs) (sym c.new-links.ensures) (linked_none tx_node (take 0 c.args.entries.now)), indexed_none c.args.file.now)
 
-pub shape-of_entries-then-count-entries : goal.shape-of_entries-then-count-entries
-shape-of_entries-then-count-entries c = c.loop-part.invariant.5
+pub shape_of-entries-then-count-entries : goal.shape_of-entries-then-count-entries
+shape_of-entries-then-count-entries c = c.loop-part.invariant.5
 
 pub returns-then-count-entries : goal.returns-then-count-entries
 returns-then-count-entries c =
@@ -31,8 +31,8 @@ returns-then-count-entries c =
     let h = handed _ _ _ _ _ _ inv.0 inv.1 c.in-Some.ensures.cases in
     record { few = (inv.2, (omega (arith, inv.3, inv.5), inv.4)); sound = inv.7.sound; indexed = λ few room. absurd (elim c.then-count-entries.either [ inl full ↦ omega (arith, h.whole, inv.5) | inr (some, full) ↦ omega (arith, h.whole) ]) }
 
-pub shape-of_entries-in_default-decode : goal.shape-of_entries-in_default-decode
-shape-of_entries-in_default-decode c = c.loop-part.invariant.5
+pub shape_of-entries-in_default-decode : goal.shape_of-entries-in_default-decode
+shape_of-entries-in_default-decode c = c.loop-part.invariant.5
 
 pub returns-in_default-decode : goal.returns-in_default-decode
 returns-in_default-decode c =
@@ -102,5 +102,5 @@ loop-part-preserved c =
           (subst (λ k. Indexed c.args.file.now k (take n es ++ entry_of (take n es) c.in-Ok.line ∷ [])) (sym (add-one n)) more),
     )
 
-pub shape-of_entries : goal.shape-of_entries
-shape-of_entries c = c.loop-part.invariant.5
+pub shape_of-entries : goal.shape_of-entries
+shape_of-entries c = c.loop-part.invariant.5

@@ -21,8 +21,8 @@ loop-link-init c =
     let gs = edges c.args.links.now in
     let t = c.args.transaction.0 in
     let x = c.args.card.0 in
-    let last : Last gs (t % 2048) (length gs) c.newest_link.result = c.newest_link.ensures in
-    (omega (arith, last.below, c.requires.linked.each), last.here, none_newest tx_node es (length es) gs c.requires.linked _ (t % 2048) c.newest_link.result (only es x t) last)
+    let last : Last gs (t % 2048) (length gs) c.newest-link.result = c.newest-link.ensures in
+    (omega (arith, last.below, c.requires.linked.each), last.here, none_newest tx_node es (length es) gs c.requires.linked _ (t % 2048) c.newest-link.result (only es x t) last)
 
 pub loop-link-smaller : goal.loop-link-smaller
 loop-link-smaller c =

@@ -21,7 +21,7 @@ pub returns-in_err-test_record : goal.returns-in_err-test_record
 returns-in_err-test_record c =
     let bs = c.args.file.now in
     let n = c.loop-part.place in
-    let p = err_from_is_err_and c.from-residual.result c.from-residual.ensures.1 in
+    let p = err_from_is_err_and c.from_residual.result c.from_residual.ensures.1 in
     let t = told bs c.loop-part.reader.bytes.now n c.loop-part.reader.place c.next.new.self.place c.in-Some.part.now c.test_record.result
     c.loop-part.invariant.0 c.loop-part.invariant.1 c.in-Some.ensures.cases c.test_record.ensures in
     rw (p.1, p.2) (record {

@@ -14,7 +14,7 @@ loop-link-init c =
     let n = c.args.count in
     let t = c.args.by.0 in
     let long : length es ≡ n = c.requires.seen.each in
-    let last : Last es (node t) (length es) c.newest_link.result = subst (λ (m : ℕ). Last es m (length es) c.newest_link.result) c.node_of.ensures c.newest_link.ensures in
+    let last : Last es (node t) (length es) c.newest-link.result = subst (λ (m : ℕ). Last es m (length es) c.newest-link.result) c.node_of.ensures c.newest-link.ensures in
     (omega (arith, last.below), last.here, λ k l le lt e. unlinked bs n es c.args.deed t k l c.requires.seen lt (last.above k le (omega arith)) e)
 
 pub returns-then-tells_at : goal.returns-then-tells_at

@@ -1,19 +1,19 @@
 -- The judge's three answers are right.
-use Rattle.std.proofs.Common.{◌≡◌, ℕ, zero, suc, ◌+◌, ◌-◌, ◌<◌, ◌≤◌, Bool, true, false, cond, not, ◌&&◌, ◌||◌, eqb, ltb, leb, ◌⊎◌, List, length, get_or, Decides, MatchBool, sym, refl, ap, ◌∙◌, subst, inl, inr, arith}
+use Rattle.std.proofs.Common.{◌≡◌, ℕ, suc, ◌<◌, Bool, true, false, ◌&&◌, eqb, ltb, List, length, Decides, sym, refl, ap, ◌∙◌, inl, inr, arith}
 use Rattle.std.proofs.lemmas.Bool.{cases_lt, and_parts, and_from, eqb-true, eq-eqb, ltb-true, lt-ltb, both_ways}
-use Rattle.isolation.specs.History.{History, Depends, Consistent, ConsistentSnapshots}
-use Rattle.reach.specs.Paths.{Path, Marked, Reached}
-use Rattle.records.specs.declared.kind.Kind.TheVariants.{Read, Writ, Done}
+use Rattle.isolation.specs.History.{ConsistentSnapshots}
+use Rattle.reach.specs.Paths.{Marked}
+use Rattle.records.specs.declared.kind.Kind.TheVariants.{Read, Writ}
 use Rattle.records.specs.declared.line.Line.{Line}
 use Rattle.digest.specs.declared.entry.Entry.{Entry}
-use Rattle.answers.specs.declared.dependences.Towards.TheVariants.{Writers, Readers}
+use Rattle.answers.specs.declared.dependences.Towards.TheVariants.{Writers}
 use Rattle.rules.specs.Rules.{is_read, is_writ}
 use Rattle.digest.specs.Entries.{at, newer, Sound}
 use Rattle.answers.specs.Questions.{some_below, marked, outdated, stale, steps, Owner, Snapshot, Snapshots}
-use Rattle.verdicts.specs.Verdicts.{history_of, Reads, Writes}
+use Rattle.verdicts.specs.Verdicts.{history_of}
 use Rattle.answers.proofs.TestLaws.{decides_some, some_hit}
 use Rattle.digest.proofs.FactLaws.{Facts}
-use Rattle.answers.proofs.HistoryLaws.{EntryAt, VersionAt, kind_read, kind_writ, reads_entry, writes_entry, entry_reads, entry_writes}
+use Rattle.answers.proofs.HistoryLaws.{kind_read, kind_writ, reads_entry, writes_entry, entry_reads, entry_writes}
 use Rattle.answers.proofs.PathLaws.{depends_forward, forward_depends}
 
 -- a number below n that passes the test

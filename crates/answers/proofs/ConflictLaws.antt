@@ -1,19 +1,19 @@
 -- The answer on conflicts between writers is right.
-use Rattle.std.proofs.Common.{◌≡◌, ℕ, suc, ◌-◌, ◌<◌, ◌≤◌, Bool, true, false, not, ◌&&◌, ◌||◌, eqb, ltb, leb, ◌⊎◌, List, length, get_or, Decides, sym, refl, ap, ◌∙◌, subst, inl, inr, arith}
+use Rattle.std.proofs.Common.{◌≡◌, ℕ, suc, ◌<◌, Bool, true, false, not, ◌&&◌, ◌||◌, eqb, List, length, Decides, sym, refl, ap, ◌∙◌, subst, inl, inr, arith}
 use Rattle.std.proofs.lemmas.Bool.{cases_Bool, cases_order, and_parts, and_from, or_parts, or_from, eqb-true, eq-eqb, ne_eqb, eqb-false, ltb-true, lt-ltb, not-true, not_from_false, both_ways}
-use Rattle.isolation.specs.History.{Depends, Clash, Independent, WriteConflictFree}
-use Rattle.reach.specs.Paths.{Path, Marked, Reached}
+use Rattle.isolation.specs.History.{Clash, Independent, WriteConflictFree}
+use Rattle.reach.specs.Paths.{Path, Marked}
 use Rattle.records.specs.declared.kind.Kind.TheVariants.{Writ}
 use Rattle.records.specs.declared.line.Line.{Line}
 use Rattle.digest.specs.declared.entry.Entry.{Entry}
 use Rattle.answers.specs.declared.dependences.Towards.TheVariants.{Writers, Readers}
 use Rattle.rules.specs.Rules.{is_writ}
 use Rattle.digest.specs.Entries.{at, rivals, Sound}
-use Rattle.answers.specs.Questions.{some_below, marked, clashes, lost, steps, Owner, BackAsked, Asked, Conflict, Conflicts}
+use Rattle.answers.specs.Questions.{marked, clashes, lost, steps, Asked, Conflict, Conflicts}
 use Rattle.verdicts.specs.Verdicts.{history_of}
 use Rattle.answers.proofs.TestLaws.{some_hit}
 use Rattle.digest.proofs.FactLaws.{Facts}
-use Rattle.answers.proofs.HistoryLaws.{EntryAt, VersionAt, kind_writ, writes_entry, entry_writes, same_owner, same_transaction}
+use Rattle.answers.proofs.HistoryLaws.{kind_writ, writes_entry, entry_writes, same_owner, same_transaction}
 use Rattle.answers.proofs.PathLaws.{depends_forward, depends_backward, forward_depends, backward_depends}
 use Rattle.answers.proofs.AnswerLaws.{some_found, owner_of}
 use Rattle.answers.proofs.DoneLaws.{Dones, committed, commits}

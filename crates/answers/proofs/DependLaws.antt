@@ -1,8 +1,8 @@
 -- The edges of a graph of reads-from steps, and longer paths and dependences.
-use Rattle.std.proofs.Common.{◌≡◌, ℕ, zero, suc, ◌+◌, ◌-◌, ◌<◌, ◌≤◌, Bool, true, false, cond, ◌&&◌, ◌⊎◌, List, [], ◌∷◌, ◌++◌, length, get_or, sym, refl, ap, ◌∙◌, subst, inl, inr, arith}
+use Rattle.std.proofs.Common.{◌≡◌, ℕ, zero, suc, ◌<◌, Bool, true, false, cond, ◌⊎◌, List, [], ◌∷◌, ◌++◌, length, get_or, sym, refl, ap, ◌∙◌, subst, inl, inr, arith}
 use Rattle.std.proofs.lemmas.Bool.{cases_lt, both_ways}
-use Rattle.isolation.specs.History.{History, ReadsFrom, Depends, Depends.one, Depends.more}
-use Rattle.reach.specs.Paths.{Edge, Path, Path.one, Path.more}
+use Rattle.isolation.specs.History.{History, ReadsFrom, Depends}
+use Rattle.reach.specs.Paths.{Edge, Path}
 use Rattle.digest.specs.declared.entry.Entry.{Entry}
 use Rattle.answers.specs.declared.dependences.Towards.{Towards}
 use Rattle.digest.specs.Entries.{at, is_step}

@@ -1,13 +1,13 @@
 -- The answer on dirty reads is right.
-use Rattle.std.proofs.Common.{◌≡◌, ℕ, suc, ◌-◌, ◌<◌, ◌≤◌, Bool, true, false, not, ◌&&◌, ◌||◌, eqb, ltb, leb, ◌⊎◌, List, length, get_or, Decides, sym, refl, ap, ◌∙◌, subst, inl, inr, arith}
-use Rattle.std.proofs.lemmas.Bool.{cases_Bool, and_parts, and_from, ltb-true, lt-ltb, leb-true, le-leb, not-true, not_from_false, not_from_true, both_ways}
+use Rattle.std.proofs.Common.{◌≡◌, ℕ, ◌-◌, ◌<◌, Bool, true, false, not, ltb, leb, ◌⊎◌, List, length, get_or, Decides, sym, refl, ap, ◌∙◌, subst, inl, inr, arith}
+use Rattle.std.proofs.lemmas.Bool.{cases_Bool, and_parts, and_from, ltb-true, lt-ltb, leb-true, le-leb, not-true, not_from_false, both_ways}
 use Rattle.records.specs.declared.kind.Kind.TheVariants.{Read, Done}
 use Rattle.records.specs.declared.line.Line.{Line}
 use Rattle.digest.specs.declared.entry.Entry.{Entry}
 use Rattle.rules.specs.Rules.{is_read}
 use Rattle.digest.specs.Entries.{at, is_step, Sound}
 use Rattle.answers.specs.Questions.{some_below, source, before, dirty}
-use Rattle.verdicts.specs.Verdicts.{Stands, ReadAt, CommittedReads}
+use Rattle.verdicts.specs.Verdicts.{Stands, CommittedReads}
 use Rattle.answers.proofs.TestLaws.{some_hit}
 use Rattle.answers.proofs.CommitLaws.{step_reads}
 use Rattle.digest.proofs.FactLaws.{Facts, ReadsFromLine}

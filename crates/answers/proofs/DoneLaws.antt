@@ -1,22 +1,14 @@
 -- Who is committed, and since which place.
-use Rattle.std.proofs.Common.{◌≡◌, ℕ, zero, suc, ◌+◌, ◌-◌, ◌<◌, ◌≤◌, Bool, true, false, cond, not, ◌&&◌, ◌||◌, eqb, ltb, leb, ◌⊎◌, List, length, get_or, Decides, MatchBool, sym, refl, ap, ◌∙◌, subst, inl, inr, arith}
-use Rattle.std.proofs.lemmas.Bool.{cases_lt, cases_Bool, and_parts, and_from, or_cases, or_parts, or_from, eqb-true, eq-eqb, ne_eqb, eqb-false, ltb-true, ltb-false, le-ltb, lt-ltb, leb-true, le-leb, not-true, not_from_false, both_ways}
-use Rattle.isolation.specs.History.{History, Depends, Clash, Independent, WriteConflictFree}
-use Rattle.reach.specs.Paths.{Path, Marked, Reached}
-use Rattle.records.specs.declared.kind.Kind.TheVariants.{Read, Writ, Done}
+use Rattle.std.proofs.Common.{◌≡◌, ℕ, zero, suc, ◌<◌, ◌≤◌, Bool, true, false, cond, ◌&&◌, eqb, List, length, get_or, sym, refl, ap, ◌∙◌, subst, inl, inr, arith}
+use Rattle.std.proofs.lemmas.Bool.{cases_lt, and_parts, and_from, eqb-true, eq-eqb, ltb-true, lt-ltb, both_ways}
+use Rattle.records.specs.declared.kind.Kind.TheVariants.{Done}
 use Rattle.records.specs.declared.line.Line.{Line}
 use Rattle.digest.specs.declared.entry.Entry.{Entry}
-use Rattle.answers.specs.declared.dependences.Towards.TheVariants.{Writers, Readers}
-use Rattle.rules.specs.Rules.{is_read, is_writ}
-use Rattle.digest.specs.Entries.{at, is_done, is_step, rivals, Sound}
-use Rattle.answers.specs.Questions.{some_below, source, done_in, before, dirty, marked, clashes, lost, steps, Owner, Conflict, Conflicts}
-use Rattle.verdicts.specs.Verdicts.{history_of, Stands, ReadAt, Commits, CommittedReads}
-use Rattle.answers.proofs.TestLaws.{some_hit}
-use Rattle.answers.proofs.CommitLaws.{step_reads}
-use Rattle.digest.proofs.FactLaws.{Facts, ReadsFromLine}
-use Rattle.answers.proofs.HistoryLaws.{EntryAt, VersionAt, kind_read, kind_writ, kind_done, stands_entry, entry_stands, line_at, writes_entry, entry_writes, wrote_entry, same_owner, same_transaction}
-use Rattle.answers.proofs.PathLaws.{depends_forward, depends_backward, forward_depends, backward_depends}
-use Rattle.answers.proofs.AnswerLaws.{some_found, owner_of}
+use Rattle.digest.specs.Entries.{at, is_done, Sound}
+use Rattle.answers.specs.Questions.{done_in, marked}
+use Rattle.verdicts.specs.Verdicts.{Stands, Commits}
+use Rattle.digest.proofs.FactLaws.{Facts}
+use Rattle.answers.proofs.HistoryLaws.{EntryAt, kind_done, stands_entry, entry_stands, same_owner, same_transaction}
 
 -- v is 0 and there is no DONE of owner o among the first n entries, or v is one more than the place of the first
 pub record FirstDone (es : List Entry) (o n v : ℕ) : Type 0 where

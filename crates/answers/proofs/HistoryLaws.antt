@@ -1,5 +1,5 @@
 -- What the lines tell of reads, writes and commits, as the entries have it.
-use Rattle.std.proofs.Common.{◌≡◌, ℕ, zero, suc, ◌+◌, ◌-◌, ◌<◌, ◌≤◌, Bool, true, false, cond, ◌&&◌, eqb, ltb, ◌⊎◌, List, [], ◌∷◌, ◌++◌, length, Some, sym, refl, ap, ◌∙◌, subst, inl, inr, arith}
+use Rattle.std.proofs.Common.{◌≡◌, ℕ, suc, ◌<◌, true, ◌&&◌, eqb, List, length, Some, sym, refl, ap, ◌∙◌, subst, inl, inr, arith}
 use Rattle.std.specs.List.{slice_get}
 use Rattle.std.proofs.lemmas.Bool.{cases_order, and_parts, and_from, eqb-true, eq-eqb}
 use Rattle.records.specs.declared.kind.Kind.{Kind}
@@ -8,7 +8,7 @@ use Rattle.records.specs.declared.line.Line.{Line}
 use Rattle.digest.specs.declared.entry.Entry.{Entry}
 use Rattle.rules.specs.Rules.{is_read, is_writ}
 use Rattle.digest.specs.Entries.{at, is_done, wrote, Sound}
-use Rattle.verdicts.specs.Verdicts.{At, Stands, WritAt, ReadAt, VersionBy, Reads, Writes, Commits}
+use Rattle.verdicts.specs.Verdicts.{Stands, WritAt, VersionBy, Reads, Writes}
 use Rattle.digest.proofs.Snoc.{nth_inside, nth_below}
 use Rattle.digest.proofs.FactLaws.{Facts, ReadsFromLine}
 

@@ -1,21 +1,20 @@
 -- Dependence between transactions is a path between their owners, in either graph of the reads-from steps.
-use Rattle.std.proofs.Common.{◌≡◌, ℕ, suc, ◌-◌, ◌<◌, ◌≤◌, true, ◌&&◌, List, length, Some, sym, refl, ap, ◌∙◌, subst, inl, inr, arith}
+use Rattle.std.proofs.Common.{◌≡◌, ℕ, suc, ◌-◌, ◌<◌, ◌≤◌, true, List, length, Some, sym, refl, ap, ◌∙◌, subst, inl, inr, arith}
 use Rattle.std.specs.List.{slice_get}
 use Rattle.std.proofs.lemmas.Bool.{and_from, lt-ltb}
-use Rattle.isolation.specs.History.{History, ReadsFrom, Depends, Depends.one, Depends.more}
-use Rattle.reach.specs.Paths.{Edge, Path, Path.one, Path.more}
-use Rattle.records.specs.declared.kind.Kind.TheVariants.{Read, Writ}
+use Rattle.isolation.specs.History.{ReadsFrom, Depends}
+use Rattle.reach.specs.Paths.{Edge, Path}
+use Rattle.records.specs.declared.kind.Kind.TheVariants.{Writ}
 use Rattle.records.specs.declared.line.Line.{Line}
 use Rattle.digest.specs.declared.entry.Entry.{Entry}
-use Rattle.answers.specs.declared.dependences.Towards.{Towards}
 use Rattle.answers.specs.declared.dependences.Towards.TheVariants.{Writers, Readers}
 use Rattle.rules.specs.Rules.{is_read}
-use Rattle.digest.specs.Entries.{at, is_step, wrote, Sound}
-use Rattle.answers.specs.Questions.{source, step_of, steps}
+use Rattle.digest.specs.Entries.{at, is_step, Sound}
+use Rattle.answers.specs.Questions.{source, steps}
 use Rattle.verdicts.specs.Verdicts.{Writes, history_of}
 use Rattle.answers.proofs.CommitLaws.{step_reads}
 use Rattle.digest.proofs.FactLaws.{Facts, ReadsFromLine}
-use Rattle.answers.proofs.HistoryLaws.{EntryAt, VersionAt, kind_read, reads_entry, writes_entry, entry_reads, entry_writes, wrote_entry, line_at, same_owner, same_transaction}
+use Rattle.answers.proofs.HistoryLaws.{VersionAt, kind_read, reads_entry, writes_entry, entry_reads, entry_writes, wrote_entry, line_at, same_owner, same_transaction}
 use Rattle.answers.proofs.DependLaws.{edge_step, step_edge, path_snoc, depends_snoc}
 
 -- entry i reads what entry j wrote

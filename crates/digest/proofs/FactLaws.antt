@@ -1,15 +1,15 @@
 -- What the entries of good lines say of the lines.
-use Rattle.std.proofs.Common.{◌≡◌, ℕ, zero, suc, ◌+◌, ◌<◌, ◌≤◌, Bool, true, false, cond, not, ◌&&◌, ◌||◌, eqb, ◌⊎◌, List, [], ◌∷◌, ◌++◌, length, get_or, Some, None, Option, sym, refl, ap, ◌∙◌, subst, inl, inr, arith}
+use Rattle.std.proofs.Common.{◌≡◌, ℕ, zero, suc, ◌<◌, Bool, true, false, cond, not, ◌&&◌, eqb, ◌⊎◌, List, [], ◌∷◌, ◌++◌, length, Some, None, Option, sym, refl, ap, ◌∙◌, subst, inl, inr, arith}
 use Rattle.std.specs.List.{slice_get}
-use Rattle.std.proofs.lemmas.Bool.Decides.{nat_tests, eqb_tells}
-use Rattle.std.proofs.lemmas.Bool.{cases_lt, cases_Bool, and_parts, or_cases, eqb-true, ne_eqb, not-true, both_ways, or_left, or_right}
+use Rattle.std.proofs.lemmas.Bool.Decides.{eqb_tells}
+use Rattle.std.proofs.lemmas.Bool.{and_parts, or_cases, eqb-true, not-true, both_ways, or_left, or_right}
 use Rattle.records.specs.declared.kind.Kind.{Kind}
 use Rattle.records.specs.declared.kind.Kind.TheVariants.{Read, Writ, Done, Gone}
 use Rattle.records.specs.declared.line.Line.{Line}
 use Rattle.digest.specs.declared.entry.Entry.{Entry}
-use Rattle.rules.specs.Rules.{is_read, is_writ, some, told, ends, in_place, kind_in_place}
-use Rattle.digest.specs.Entries.{blank, at, wrote, owner_in, version_in, version_of, entry_of, Sound}
-use Rattle.digest.specs.Told.{Told, Told.none, Told.more}
+use Rattle.rules.specs.Rules.{is_writ, some, told, ends, in_place, kind_in_place}
+use Rattle.digest.specs.Entries.{at, wrote, version_in, version_of, entry_of, Sound}
+use Rattle.digest.specs.Told.{Told}
 use Rattle.digest.proofs.Snoc.{length_snoc, nth_inside, nth_below, nth_snoc}
 use Rattle.digest.proofs.EntryLaws.{owner_found, version_found, at_old, at_new, old_or_new, sound_none, sound_more}
 

@@ -1,12 +1,11 @@
 -- The entries of a file's first records, one record after the other.
-use Rattle.std.proofs.Common.{◌≡◌, ℕ, zero, suc, ◌+◌, ◌<◌, ◌≤◌, List, [], ◌∷◌, ◌++◌, Ok, Result, sym, refl, ap, ◌∙◌, subst, arith}
+use Rattle.std.proofs.Common.{◌≡◌, ℕ, suc, ◌<◌, List, [], ◌∷◌, ◌++◌, Ok, sym, subst}
 use Rattle.records.specs.declared.line.Line.{Line}
 use Rattle.records.specs.Parts.{part}
 use Rattle.records.specs.Format.{decoded}
 use Rattle.digest.specs.declared.entry.Entry.{Entry}
-use Rattle.rules.specs.Rules.{scanned}
-use Rattle.digest.specs.Entries.{entry_of, Sound}
-use Rattle.digest.specs.Told.{Told, Told.none, Told.more, Indexed}
+use Rattle.digest.specs.Entries.{entry_of}
+use Rattle.digest.specs.Told.{Told, Indexed}
 use Rattle.digest.proofs.ScanLaws.{scanned_more, scanned_reads, decoded_named}
 use Rattle.digest.proofs.EntryLaws.{sound_none, sound_more}
 

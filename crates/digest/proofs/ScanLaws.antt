@@ -1,6 +1,5 @@
 -- What a scan that went well says of each record.
-use Rattle.std.proofs.Common.{◌≡◌, ℕ, zero, suc, ◌+◌, ◌<◌, ◌≤◌, Bool, true, false, cond, ◌&&◌, eqb, leb, ◌⊎◌, List, [], ◌∷◌, ◌++◌, length, Some, None, Ok, Err, Option, Result, sym, refl, ap, ◌∙◌, subst, inl, inr, arith}
-use Rattle.std.proofs.lemmas.Bool.Decides.{nat_tests}
+use Rattle.std.proofs.Common.{◌≡◌, ℕ, zero, suc, ◌<◌, Bool, true, false, cond, eqb, leb, List, [], ◌∷◌, ◌++◌, length, Some, None, Ok, Err, Option, Result, refl, subst, inl, inr, arith}
 use Rattle.std.proofs.lemmas.Bool.{cases_lt, leb-true, and_parts}
 use Rattle.records.specs.declared.kind.Kind.{Kind}
 use Rattle.records.specs.declared.line.Line.{Line}
@@ -10,7 +9,7 @@ use Rattle.records.specs.Format.{record_size, decoded, read_as, tested, line_of,
 use Rattle.rules.specs.declared.judge_fault.JudgeFault.{JudgeFault}
 use Rattle.records.specs.declared.fault.RecordFault.TheVariants as faults
 use Rattle.rules.specs.declared.judge_fault.JudgeFault.TheVariants.{Record, OutOfPlace}
-use Rattle.rules.specs.Rules.{in_place, placed, after_record, next_record, scanned}
+use Rattle.rules.specs.Rules.{in_place, after_record, next_record, scanned}
 
 -- the line that one more good record adds
 pub record ScannedMore (bs : List ℕ) (n : ℕ) (all : List Line) : Type 0 where

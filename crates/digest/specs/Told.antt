@@ -2,7 +2,6 @@
 --     Told ls es                  es are the entries of the lines ls, each of which is in place
 --     Indexed bs es               es are the entries of the lines of a file with the bytes bs, if all are good
 use Rattle.std.specs.Prelude.{◌≡◌, ℕ, ◌<◌, true, List, [], ◌∷◌, ◌++◌, Ok}
-use Rattle.records.specs.Parts.{records_in}
 use Rattle.records.specs.declared.line.Line.{Line}
 use Rattle.rules.specs.Rules.{in_place, scanned}
 use Rattle.digest.specs.Entries.{entry_of, Sound}

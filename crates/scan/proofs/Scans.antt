@@ -1,5 +1,5 @@
 -- Lines of the first records, one more at a time. Assumes nothing.
-use Rattle.std.proofs.Common.{◌≡◌, ℕ, zero, suc, ◌+◌, ◌-◌, ◌<◌, ◌≤◌, Bool, true, false, ◌&&◌, ◌||◌, eqb, ◌⊎◌, List, [], ◌∷◌, ◌++◌, length, is_ok, Ok, Err, Result, sym, refl, ap, ◌∙◌, subst, inl, inr, ⊎_elim, add-one, arith, length-append}
+use Rattle.std.proofs.Common.{◌≡◌, ℕ, zero, suc, ◌+◌, ◌-◌, ◌<◌, ◌≤◌, Bool, true, false, ◌&&◌, ◌||◌, eqb, List, [], ◌∷◌, ◌++◌, is_ok, Ok, Err, Result, sym, refl, ap, ◌∙◌, subst, ⊎_elim, add-one, arith, length-append}
 use Rattle.std.proofs.str.Laws.{order}
 use Rattle.std.specs.Result.{result_ok}
 use Rattle.std.specs.Option.{option_to_list}
@@ -9,7 +9,7 @@ use Rattle.records.specs.declared.kind.Kind.{Kind}
 use Rattle.records.specs.declared.kind.Kind.TheVariants as Kinds
 use Rattle.records.specs.Format.{decoded, good_card}
 use Rattle.records.specs.Parts.{part}
-use Rattle.rules.specs.Rules.{some, told, is_read, is_writ, is_end, ends}
+use Rattle.rules.specs.Rules.{some, is_read, is_writ, is_end}
 use Rattle.scan.specs.Scanning.{Readable, lines_of, deed_told, deed_card, node, Seen, NoneAmong}
 use Rattle.scan.specs.declared.deed.Deed.{Deed}
 use Rattle.scan.specs.declared.deed.Deed.TheVariants.{Ended, Read, Written}

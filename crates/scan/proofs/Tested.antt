@@ -1,5 +1,5 @@
 -- The tests of a file's records, in their order, and of its ends. Assumes nothing.
-use Rattle.std.proofs.Common.{◌≡◌, ℕ, zero, suc, ◌+◌, ◌-◌, ◌<◌, ◌≤◌, Bool, true, false, cond, List, [], ◌∷◌, ◌++◌, length, is_ok, Some, None, Ok, Err, Option, Result, sym, refl, ap, ◌∙◌, subst, ⊎_elim, add-one, arith, length-append}
+use Rattle.std.proofs.Common.{◌≡◌, ℕ, zero, suc, ◌+◌, ◌-◌, ◌<◌, ◌≤◌, Bool, true, false, cond, List, [], ◌∷◌, ◌++◌, length, is_ok, Some, None, Ok, Err, Result, sym, refl, ap, ◌∙◌, subst, ⊎_elim, arith, length-append}
 use Rattle.std.specs.List.{slice_get}
 use Rattle.std.specs.Result.{result_ok}
 use Rattle.std.specs.Option.{option_to_list}
@@ -9,10 +9,9 @@ use Rattle.records.specs.declared.fault.RecordFault.{RecordFault}
 use Rattle.records.specs.Format.{decoded, placed_at}
 use Rattle.records.specs.Parts.{part}
 use Rattle.rules.specs.declared.judge_fault.JudgeFault.{JudgeFault}
-use Rattle.rules.specs.declared.judge_fault.JudgeFault.TheVariants.{Record, OutOfPlace}
-use Rattle.rules.specs.Rules.{some, ends, in_place, placed, after_record, next_record, scanned, unended}
+use Rattle.rules.specs.declared.judge_fault.JudgeFault.TheVariants.{OutOfPlace}
+use Rattle.rules.specs.Rules.{some, ends, in_place, after_record, next_record, scanned, unended}
 use Rattle.scan.specs.Scanning.{Readable, lines_of, Scanned, answered}
-use Rattle.scan.proofs.Scans.{lines_more}
 
 module _ (bs : List ℕ) where
   pub none_scanned : Scanned bs 0

@@ -18,7 +18,7 @@ use Rattle.rules.specs.declared.judge_fault.JudgeFault.{JudgeFault}
 use Rattle.scan.specs.declared.deed.Deed.{Deed}
 use Rattle.scan.specs.declared.deed.Deed.TheVariants.{Ended, Read, Written}
 use Rattle.reach.specs.Links.{from}
-use Rattle.rules.specs.Rules.{scanned, some, told, is_read, is_writ, ends}
+use Rattle.rules.specs.Rules.{scanned, told, is_read, is_writ, ends}
 
 abbrev pub Readable : List ℕ → ℕ → Type 0
 Readable bs n = (i : ℕ) → i < n → is_ok (decoded (part bs i)) ≡ true

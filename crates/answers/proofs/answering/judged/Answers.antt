@@ -1,4 +1,4 @@
-use Rattle.std.proofs.Common.{◌≡◌, ℕ, ◌-◌, ◌<◌, ◌≤◌, List, length, take, replicate, Ok, sym, ap, ◌∙◌, subst, arith}
+use Rattle.std.proofs.Common.{◌≡◌, ℕ, ◌-◌, ◌≤◌, List, length, take, replicate, Ok, sym, ap, ◌∙◌, subst, arith}
 use Rattle.records.specs.declared.line.Line.{Line}
 use Rattle.records.specs.Parts.{records_in}
 use Rattle.rules.specs.Rules.{scanned}
@@ -16,11 +16,11 @@ returns c =
     let front : count ≡ count - 0 = omega arith in
     let right : records_in bs ≤ 2048 → records_in bs ≤ length c.args.marks.now → (ls : List Line) → scanned bs (records_in bs) ≡ Ok ls → Judged ls c.if-count-marks.verdict =
     λ few enough ls scan.
-        elim c.if-count-marks.branch [
-          | then-count-marks w ↦ subst (λ (v : Verdict). Judged ls v) (sym w.verdict-is) (w.of_entries-verdict.ensures ls
-              (subst (λ k. Told ls (take k c.index-count.new.entries)) front ((c.index-count.ensures.indexed few few).told ls scan)))
-          | else-count-marks w ↦ absurd (omega (arith, enough, c.index-count.ensures.few.0, w.if-count-marks.false))
-        ] in
+    elim c.if-count-marks.branch [
+      | then-count-marks w ↦ subst (λ (v : Verdict). Judged ls v) (sym w.verdict-is) (w.of_entries-verdict.ensures ls
+          (subst (λ k. Told ls (take k c.index-count.new.entries)) front ((c.index-count.ensures.indexed few few).told ls scan)))
+      | else-count-marks w ↦ absurd (omega (arith, enough, c.index-count.ensures.few.0, w.if-count-marks.false))
+    ] in
     record {
       verdict = λ ls h. let a = accepted_in bs (length c.args.marks.now) ls h in right a.few a.enough ls a.scan;
       good = right;

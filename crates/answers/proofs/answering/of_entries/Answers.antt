@@ -1,7 +1,7 @@
-use Rattle.std.proofs.Common.{◌≡◌, ℕ, ◌<◌, ◌≤◌, Bool, List, length, subst, arith}
+use Rattle.std.proofs.Common.{ℕ, ◌<◌, List, length, subst, arith}
 use Rattle.reach.specs.Paths.{edges}
 use Rattle.answers.specs.Questions.{steps, Snapshots, Conflicts}
-use Rattle.answers.specs.declared.dependences.Towards.TheVariants.{Writers, Readers}
+use Rattle.answers.specs.declared.dependences.Towards.TheVariants.{Writers}
 use Rattle.digest.proofs.FactLaws.{told_facts, told_sound}
 use Rattle.answers.proofs.AnswerLaws.{snapshots_decide}
 use Rattle.answers.proofs.DirtyLaws.{reads_decide}

@@ -1,4 +1,4 @@
-use Rattle.std.proofs.Common.{◌≡◌, ℕ, suc, ◌%◌, ◌≤◌, ◌&&◌, eqb, length}
+use Rattle.std.proofs.Common.{◌≡◌, ℕ, suc, ◌≤◌, ◌&&◌, eqb, length}
 use Rattle.reach.specs.Links.{from}
 use Rattle.reach.specs.Paths.{edges}
 use Rattle.rules.specs.Rules.{is_writ}

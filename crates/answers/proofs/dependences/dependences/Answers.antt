@@ -1,9 +1,9 @@
-use Rattle.std.proofs.Common.{◌≡◌, ◌+◌, ◌<◌, ◌≤◌, length, sym, ap, ◌∙◌, subst, arith}
+use Rattle.std.proofs.Common.{◌≡◌, ◌+◌, ◌<◌, length, sym, ap, ◌∙◌, subst, arith}
 use Rattle.reach.specs.Paths.{edges}
 use Rattle.reach.specs.declared.graph.Graph.{Graph}
 use Rattle.digest.specs.Entries.{at}
 use Rattle.answers.specs.Questions.{source, steps, step_of}
-use Rattle.answers.proofs.CommitLaws.{no_steps, steps_yes, steps_no, step_taken, source_low}
+use Rattle.answers.proofs.CommitLaws.{no_steps, steps_no, step_taken, source_low}
 use Rattle.answers.proofs.dependences.dependences.Goals as goal
 use Rattle.answers.proofs.dependences.dependences.Goals.{then-is_step+in-Writers, then-is_step+in-Readers, else-is_step}
 

@@ -1,4 +1,4 @@
-use Rattle.std.proofs.Common.{◌≡◌, ℕ, suc, ◌+◌, ◌%◌, ◌<◌, ◌≤◌, Bool, true, false, cond, List, [], ◌∷◌, ◌++◌, length, sym, refl, ap, ◌∙◌, subst, add-one, arith}
+use Rattle.std.proofs.Common.{◌≡◌, ℕ, ◌+◌, ◌%◌, ◌<◌, Bool, true, false, cond, List, [], ◌∷◌, ◌++◌, length, sym, refl, ap, ◌∙◌, subst, add-one, arith}
 use Rattle.std.proofs.lemmas.Bool.Decides.{nat_tests}
 use Rattle.reach.specs.Paths.{edges, taken}
 use Rattle.reach.specs.declared.graph.Graph.{Graph}
@@ -7,7 +7,7 @@ use Rattle.digest.specs.declared.entry.Entry.{Entry}
 use Rattle.digest.specs.Entries.{at}
 use Rattle.digest.specs.Links.{Linked}
 use Rattle.digest.proofs.LinkLaws.{linked_none, linked_more}
-use Rattle.answers.specs.Questions.{own_node, writ_node, Listed}
+use Rattle.answers.specs.Questions.{own_node, writ_node}
 use Rattle.answers.proofs.links.linked.Goals as goal
 
 node_small : (e : Entry) → writ_node e < 2048

@@ -1,10 +1,9 @@
-use Rattle.std.proofs.Common.{◌≡◌, ℕ, ◌+◌, ◌<◌, ◌≤◌, Bool, not, ◌&&◌, List, length, sym, refl, ap, ◌∙◌, subst, arith}
+use Rattle.std.proofs.Common.{ℕ, ◌+◌, ◌<◌, ◌≤◌, Bool, List, length, sym, refl, ap, ◌∙◌, subst, arith}
 use Rattle.std.proofs.lemmas.List.{length-replicate}
 use Rattle.reach.specs.Paths.{edges, Marked}
 use Rattle.reach.specs.Searches.{Clear}
 use Rattle.reach.specs.declared.queue.Queue.{Queue}
 use Rattle.reach.proofs.SearchLaws.{none_marked}
-use Rattle.digest.specs.Entries.{at}
 use Rattle.answers.specs.Questions.{Snapshot, Snapshots, Conflict, Conflicts}
 use Rattle.answers.proofs.EachLaws.{each_more, each_skip}
 use Rattle.answers.proofs.searches.search_all.Goals as goal

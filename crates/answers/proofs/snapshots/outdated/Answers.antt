@@ -1,7 +1,6 @@
-use Rattle.std.proofs.Common.{◌≡◌, ℕ, suc, ◌-◌, ◌%◌, ◌<◌, ◌≤◌, ◌&&◌, eqb, length, sym, ap, ◌∙◌, subst, arith}
+use Rattle.std.proofs.Common.{◌≡◌, ℕ, suc, ◌-◌, ◌%◌, ◌<◌, ◌&&◌, length, sym, subst, arith}
 use Rattle.std.proofs.lemmas.Bool.Decides.{nat_tests}
-use Rattle.std.proofs.lemmas.Bool.{and_from, eq-eqb}
-use Rattle.reach.specs.Links.{from, Last}
+use Rattle.reach.specs.Links.{Last}
 use Rattle.reach.specs.Paths.{edges}
 use Rattle.digest.specs.Entries.{at, newer}
 use Rattle.answers.specs.Questions.{marked, writ_node}

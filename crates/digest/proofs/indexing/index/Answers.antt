@@ -1,11 +1,10 @@
-use Rattle.std.proofs.Common.{◌≡◌, ℕ, suc, ◌+◌, ◌-◌, ◌%◌, ◌<◌, ◌≤◌, Bool, true, cond, List, [], ◌∷◌, ◌++◌, length, take, set, Ok, sym, refl, ap, ◌∙◌, subst, inl, inr, add-one, arith, length-set, rules}
+use Rattle.std.proofs.Common.{◌≡◌, ℕ, ◌+◌, ◌-◌, ◌%◌, ◌<◌, Bool, true, cond, List, [], ◌∷◌, ◌++◌, length, take, set, Ok, sym, refl, ap, ◌∙◌, subst, inl, inr, add-one, arith, length-set}
 use Rattle.std.proofs.lemmas.List.{take_more_set, length-take-le}
 use Rattle.std.proofs.lemmas.Bool.Decides.{nat_tests}
-use Rattle.records.specs.declared.line.Line.{Line}
 use Rattle.records.specs.Parts.{records_in, part, Handed, Ended}
 use Rattle.records.specs.Format.{decoded}
 use Rattle.digest.specs.declared.entry.Entry.{Entry}
-use Rattle.reach.specs.Paths.{edges, taken}
+use Rattle.reach.specs.Paths.{edges}
 use Rattle.digest.specs.Entries.{entry_of}
 use Rattle.digest.specs.Links.{tx_node, Linked}
 use Rattle.digest.specs.Told.{Indexed}

@@ -1,7 +1,7 @@
-use Rattle.std.proofs.Common.{◌≡◌, ℕ, zero, suc, ◌-◌, ◌%◌, ◌<◌, ◌≤◌, Bool, true, false, eqb, List, length, sym, ap, ◌∙◌, subst, arith}
+use Rattle.std.proofs.Common.{◌≡◌, ℕ, suc, ◌-◌, ◌%◌, ◌<◌, eqb, List, length, sym, ap, ◌∙◌, subst, arith}
 use Rattle.digest.specs.declared.entry.Entry.{Entry}
 use Rattle.std.proofs.lemmas.Bool.{eqb-true, ne_eqb}
-use Rattle.reach.specs.Links.{from, Last}
+use Rattle.reach.specs.Links.{Last}
 use Rattle.reach.specs.Paths.{edges}
 use Rattle.digest.specs.Entries.{at, owner_in}
 use Rattle.digest.specs.Links.{tx_node}

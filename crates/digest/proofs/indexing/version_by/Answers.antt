@@ -1,8 +1,8 @@
-use Rattle.std.proofs.Common.{◌≡◌, ℕ, zero, suc, ◌-◌, ◌%◌, ◌<◌, ◌≤◌, Bool, true, false, ◌&&◌, eqb, List, length, sym, ap, ◌∙◌, subst, arith}
+use Rattle.std.proofs.Common.{◌≡◌, ℕ, suc, ◌-◌, ◌%◌, ◌<◌, ◌&&◌, eqb, List, length, sym, ap, ◌∙◌, subst, arith}
 use Rattle.rules.specs.Rules.{is_writ}
 use Rattle.digest.specs.declared.entry.Entry.{Entry}
 use Rattle.std.proofs.lemmas.Bool.{eqb-true, and_parts}
-use Rattle.reach.specs.Links.{from, Last}
+use Rattle.reach.specs.Links.{Last}
 use Rattle.reach.specs.Paths.{edges}
 use Rattle.digest.specs.Entries.{at, wrote, version_in}
 use Rattle.digest.specs.Links.{tx_node}

@@ -1,7 +1,7 @@
-use Rattle.std.proofs.Common.{◌≡◌, sym, ap, ◌∙◌}
+use Rattle.std.proofs.Common.{sym, ap}
 use Rattle.std.proofs.lemmas.Result.{err_from_is_err_and}
 use Rattle.scan.specs.Scanning.{answered}
-use Rattle.scan.proofs.Accepting.{bad_size, few_marks, bad_records, no_end, all_good}
+use Rattle.scan.proofs.Accepting.{bad_size}
 use Rattle.scan.proofs.acceptance.accept.Goals as goal
 
 pub returns-in_err-count : goal.returns-in_err-count

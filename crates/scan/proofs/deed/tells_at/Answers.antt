@@ -1,4 +1,4 @@
-use Rattle.std.proofs.Common.{◌≡◌, ℕ, sym, ap, ◌∙◌}
+use Rattle.std.proofs.Common.{sym, ap, ◌∙◌}
 use Rattle.stamps.specs.declared.numbers.CardNo.{CardNo}
 use Rattle.scan.proofs.Scans.{off_card}
 use Rattle.scan.proofs.deed.tells_at.Goals as goal

@@ -1,14 +1,11 @@
-use Rattle.std.proofs.Common.{◌≡◌, ℕ, ◌+◌, ◌<◌, ◌≤◌, true, false, List, length, Some, sym, ap, ◌∙◌, ⊎_elim, arith}
-use Rattle.std.specs.List.{slice_get}
-use Rattle.std.proofs.str.Laws.{order}
-use Rattle.records.specs.declared.line.Line.{Line}
+use Rattle.std.proofs.Common.{◌≡◌, ◌+◌, true, false, length, Some, sym, ap, ◌∙◌, arith}
 use Rattle.records.specs.Format.{decoded}
 use Rattle.records.specs.Parts.{records_in, part}
 use Rattle.stamps.specs.declared.numbers.TxNo.{TxNo}
 use Rattle.rules.specs.Rules.{some, ends}
 use Rattle.scan.specs.Scanning.{lines_of}
 use Rattle.scan.proofs.Scans.{read_as_line}
-use Rattle.scan.proofs.Tested.{EndedBelow, length_lines, nth_lines, unended_at, none_unended, ended_more}
+use Rattle.scan.proofs.Tested.{length_lines, nth_lines, unended_at, none_unended, ended_more}
 use Rattle.scan.proofs.scan.first_unended.Goals as goal
 
 pub returns-then-not-told : goal.returns-then-not-told

@@ -1,9 +1,9 @@
-use Rattle.std.proofs.Common.{◌≡◌, ℕ, suc, ◌<◌, ◌≤◌, List, Ok, Err, Result, sym, ap, ◌∙◌, subst, arith}
+use Rattle.std.proofs.Common.{◌≡◌, ℕ, suc, ◌<◌, ◌≤◌, List, Result, sym, ap, ◌∙◌, subst, arith}
 use Rattle.std.proofs.lemmas.Result.{err_from_is_err_and}
 use Rattle.records.specs.Format.{decoded}
 use Rattle.records.specs.Parts.{records_in, part, Handed}
 use Rattle.rules.specs.declared.judge_fault.JudgeFault.{JudgeFault}
-use Rattle.rules.specs.Rules.{after_record, scanned}
+use Rattle.rules.specs.Rules.{after_record}
 use Rattle.scan.specs.Scanning.{Scanned, Seen, lines_of, answered}
 use Rattle.reach.specs.Paths.{edges}
 use Rattle.scan.proofs.Tested.{one_scanned, refused_at}

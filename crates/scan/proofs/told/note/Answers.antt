@@ -1,6 +1,6 @@
-use Rattle.std.proofs.Common.{◌≡◌, ℕ, suc, ◌<◌, Bool, true, cond, List, [], ◌∷◌, ◌++◌, length, sym, ap, ◌∙◌, subst, arith}
+use Rattle.std.proofs.Common.{◌≡◌, ℕ, suc, Bool, true, cond, List, [], ◌∷◌, ◌++◌, length, sym, ap, ◌∙◌, subst, arith}
 use Rattle.std.proofs.lemmas.Bool.Decides.{nat_tests}
-use Rattle.reach.specs.Paths.{edges, taken}
+use Rattle.reach.specs.Paths.{edges}
 use Rattle.scan.specs.Scanning.{node, Seen}
 use Rattle.scan.proofs.Scans.{seen_more}
 use Rattle.scan.proofs.told.note.Goals as goal

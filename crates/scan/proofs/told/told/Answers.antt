@@ -1,9 +1,9 @@
-use Rattle.std.proofs.Common.{◌≡◌, ℕ, suc, ◌-◌, ◌<◌, ◌≤◌, length, sym, ap, ◌∙◌, subst, arith}
+use Rattle.std.proofs.Common.{◌≡◌, ℕ, suc, ◌-◌, ◌<◌, length, sym, ◌∙◌, subst, arith}
 use Rattle.records.specs.Format.{decoded}
 use Rattle.records.specs.Parts.{part}
-use Rattle.reach.specs.Links.{from, Last}
+use Rattle.reach.specs.Links.{Last}
 use Rattle.reach.specs.Paths.{edges}
-use Rattle.scan.specs.Scanning.{deed_told, node, Seen, NoneAmong}
+use Rattle.scan.specs.Scanning.{deed_told, node, NoneAmong}
 use Rattle.scan.proofs.Scans.{some_here, read_as_line, none_of_all, none_onward, unlinked}
 use Rattle.scan.proofs.told.told.Goals as goal
 

@@ -1,4 +1,4 @@
-use Rattle.std.proofs.Common.{◌≡◌, ℕ, suc, ◌≤◌, length}
+use Rattle.std.proofs.Common.{◌≡◌, ℕ, suc, ◌≤◌}
 use Rattle.reach.specs.Links.{from}
 use Rattle.reach.specs.Paths.{edges}
 use Rattle.scan.specs.Scanning.{deed_told, node, NoneAmong}

@@ -1,5 +1,5 @@
 -- Every session is lawful, and what is told of it stands.
-use Rattle.std.proofs.Common.{◌≡◌, ℕ, List, [], ◌∷◌, ◌++◌, IfOk, Some, None, Ok, Err, vec_items, Option, Result, sym, refl, ap, ◌∙◌, subst}
+use Rattle.std.proofs.Common.{◌≡◌, ℕ, List, [], ◌∷◌, ◌++◌, IfOk, Some, None, Ok, Err, Option, Result, sym, refl, ap, ◌∙◌, subst}
 use Rattle.shelf.specs.Meaning.{Meaning}
 use Rattle.shelf.specs.Sound.{Sound}
 use Rattle.isolation.specs.Account.{Account, fresh, Draft}
@@ -22,7 +22,7 @@ use Rattle.sessions.specs.declared.command.Command.{Command}
 use Rattle.sessions.specs.Slips.{slips_after}
 use Rattle.sessions.specs.Scripts.{SoFar, nothing_yet, account_by, told_by, told, AnswersTo}
 use Rattle.sessions.specs.Laws.{On, JournalLaw, AnswerLaw, LawfulSession, Ends, SessionLaw}
-use Rattle.sessions.specs.Exactly.{ExactCall, Exact, shelf_call, shelf_after, BooksCall, BooksAfter, Replied, Ran, DoneExactly}
+use Rattle.sessions.specs.Exactly.{ExactCall, Exact, shelf_call, shelf_after, BooksCall, BooksAfter, Ran, DoneExactly}
 use Rattle.sessions.specs.Exactly.Ran.{begun, goes_on}
 use Rattle.sessions.proofs.Told.{versions_told, stamp_told, journal_told}
 

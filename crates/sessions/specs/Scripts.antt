@@ -10,7 +10,6 @@ use Rattle.std.specs.Option.{option_map}
 use Rattle.stamps.specs.declared.stamp.Stamp.{Stamp}
 use Rattle.stamps.specs.declared.numbers.TxNo.{TxNo}
 use Rattle.isolation.specs.Account.{Account, fresh}
-use Rattle.transactions.specs.declared.event.Event.{Event}
 use Rattle.transactions.specs.declared.event.Event.TheVariants as events
 use Rattle.transactions.specs.declared.reading.Reading.{Reading}
 use Rattle.transactions.specs.declared.refusal.Refusal.{Refusal}

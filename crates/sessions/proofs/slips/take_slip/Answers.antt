@@ -2,7 +2,7 @@ use Rattle.std.proofs.Common.{◌≡◌, Some, None, vec_items, ap, ◌∙◌, s
 use Rattle.transactions.specs.State.{last_at}
 use Rattle.books.specs.declared.slip.Slip.{Slip}
 use Rattle.sessions.specs.Slips.{is_for, less}
-use Rattle.sessions.proofs.Holding.{found, none_held, none_taken}
+use Rattle.sessions.proofs.Holding.{found, none_held}
 use Rattle.sessions.proofs.slips.take_slip.Goals as goal
 
 pub remove-requires : goal.remove-requires

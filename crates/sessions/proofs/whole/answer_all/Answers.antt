@@ -1,8 +1,5 @@
-use Rattle.std.proofs.Common.{◌≡◌, List, [], ◌∷◌, ◌++◌, length, get_or, take, vec_items, sym, refl, ◌∙◌, subst, arith}
-use Rattle.std.proofs.lemmas.List.{take_all, take_more}
+use Rattle.std.proofs.Common.{vec_items, arith}
 use Rattle.catalogue.specs.Kept.{kept}
-use Rattle.sessions.specs.Exactly.{Ran}
-use Rattle.sessions.specs.Exactly.Ran.{begun, goes_on}
 use Rattle.sessions.proofs.Grown.{ran_none, ran_more, ran_all}
 use Rattle.sessions.proofs.whole.answer_all.Goals as goal
 

@@ -1,4 +1,4 @@
-use Rattle.std.proofs.Common.{◌≡◌, IfOk, vec_items, subst}
+use Rattle.std.proofs.Common.{IfOk, vec_items, subst}
 use Rattle.catalogue.specs.Kept.{kept}
 use Rattle.sessions.specs.Exactly.{DoneExactly}
 use Rattle.sessions.proofs.Grown.{all_done}

@@ -15,15 +15,6 @@ use stamps::{CardNo, Stamp, TxNo, Value, VersionNo};
 const MOST_CARDS: u32 = 256;
 
 impl<L: Shelf, R: Shelf> SplitShelf<L, R> {
-    // The split of two shelves, which means what both mean, joined.
-    pub fn new(left: L, right: R) -> SplitShelf<L, R>
-        ensures same_left { result.left ≡ left }
-        ensures same_right { result.right ≡ right }
-        ensures meant { join (parts (L.Shelf.meaning result.left) (R.Shelf.meaning result.right)) ≡ join (parts (L.Shelf.meaning left) (R.Shelf.meaning right)) }
-    {
-        SplitShelf { left, right }
-    }
-
     // How many cards there are.
     fn shown(&self) -> u32
         ensures { result ≡ min ((L.Shelf.meaning self.now.left).cards + (R.Shelf.meaning self.now.right).cards) room }

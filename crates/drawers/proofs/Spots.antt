@@ -10,12 +10,8 @@ use Rattle.drawers.specs.declared.places.Places.{Places}
 use Rattle.drawers.specs.declared.places.Spot.{Spot}
 use Rattle.drawers.specs.declared.places.Spot.TheVariants.{First, Place}
 use Rattle.drawers.specs.declared.places.Written.{Written}
-use Rattle.drawers.specs.Places.{counts_in, version_in, version_of, first_written, Wrote}
+use Rattle.drawers.specs.Places.{has_place, counts_in, version_in, version_of, first_written, Wrote}
 use Rattle.shelf.specs.Sound.{Narrow}
-
--- there is an entry and a stamp at place p
-abbrev pub has_place : Places → ℕ → Type 0
-has_place ps p = (p < vec_len ps.entries) × (p < vec_len ps.stamps)
 
 -- a stamp that was read
 pub counts_read : (ps : Places) (w : ℕ) (s : Spot) (p : ℕ) (x : Stamp) → s ≡ Place p → p < vec_len ps.stamps → x ≡ get_or (vec_items ps.stamps) p x → counts_in ps w s ≡ cut w (entries x)

@@ -1,4 +1,6 @@
 -- The versions that lie in places, and where a version lies. Assumes nothing.
+--     has_place ps p          there is an entry and a stamp at place p
+--     Lies ps s               the spot s is version 0's, or a place that is there
 --     first_written           the value and writer of version 0
 --     written_at ps s         the value and writer at the spot s; version 0's where there is no such place
 --     counts_in ps w s        the counts of its stamp, 0 from the width w on; zeros where there is no such place
@@ -6,7 +8,7 @@
 --     version_in ps w s       the version at the spot s
 --     version_of w t x        the version with the entry t and the stamp x, 0 from the width w on
 --     Wrote ps qs p t x       qs is ps with the entry t and the stamp x at place p, if there is such a place
-use Rattle.std.specs.Prelude.{◌≡◌, ℕ, map, vec_items, vec_len, slice_index_or, slice_set}
+use Rattle.std.specs.Prelude.{◌≡◌, ℕ, ◌<◌, map, vec_items, vec_len, slice_index_or, slice_set}
 use Rattle.stamps.specs.Blank.{blank}
 use Rattle.stamps.specs.Counts.{cut}
 use Rattle.stamps.specs.Entries.{entries}
@@ -16,6 +18,13 @@ use Rattle.drawers.specs.declared.places.Spot.{Spot}
 use Rattle.drawers.specs.declared.places.Spot.TheVariants.{First, Place}
 use Rattle.drawers.specs.declared.places.Written.{Written}
 use Rattle.shelf.specs.Meaning.{Version}
+
+abbrev pub has_place : Places → ℕ → Type 0
+has_place ps p = (p < vec_len ps.entries) × (p < vec_len ps.stamps)
+
+abbrev pub Lies : Places → Spot → Type 0
+Lies ps First = Unit {0}
+Lies ps (Place p) = has_place ps p
 
 abbrev pub first_written : Written
 first_written = record { value = blank; writer = record { 0 = 0 } }

@@ -15,13 +15,13 @@ use Rattle.pools.specs.declared.pool.PoolShelf.{PoolShelf}
 use Rattle.pools.specs.Chains.{tally, no_link, no_chain, chain_at, link_at, owner, Led, Leads}
 use Rattle.shelf.specs.Meaning.{Version, first_version, version_at}
 use Rattle.shelf.specs.Sound.{Sound}
-use Rattle.drawers.specs.Places.{version_in, version_of, Wrote}
+use Rattle.drawers.specs.Places.{has_place, version_in, version_of, Wrote}
 use Rattle.shelf.specs.Putting.{added}
 use Rattle.pools.specs.Pools.{pool_of}
 use Rattle.pools.specs.PoolMeaning.{pool_meaning}
 use Rattle.pools.specs.Links.{Knows, from_known, Newest, from_newest, leads_further, owner_kept, chain_new}
 use Rattle.pools.specs.PoolsLemmas.{tally_le, pool_length, pool_first, pool_nth, pool_none, pool_sound, pool_added}
-use Rattle.drawers.proofs.Spots.{has_place, narrow_in, wrote_other, wrote_here}
+use Rattle.drawers.proofs.Spots.{narrow_in, wrote_other, wrote_here}
 
 abbrev owned : PoolShelf → ℕ → ℕ
 owned s = owner (vec_items s.chains)

@@ -13,12 +13,12 @@ use Rattle.stamps.specs.declared.stamp.Stamp.{Stamp}
 use Rattle.rows.specs.declared.row.RowShelf.{RowShelf}
 use Rattle.shelf.specs.Meaning.{Version, first_version, version_at}
 use Rattle.shelf.specs.Sound.{Sound}
-use Rattle.drawers.specs.Places.{version_in, version_of, Wrote}
+use Rattle.drawers.specs.Places.{has_place, version_in, version_of, Wrote}
 use Rattle.shelf.specs.Putting.{added}
 use Rattle.rows.specs.Rows.{row_of}
 use Rattle.rows.specs.RowMeaning.{row_meaning}
 use Rattle.rows.specs.RowsLemmas.{row_length, row_first, row_nth, row_none, row_sound, row_added}
-use Rattle.drawers.proofs.Spots.{has_place, narrow_in, wrote_other, wrote_here}
+use Rattle.drawers.proofs.Spots.{narrow_in, wrote_other, wrote_here}
 
 -- a row with these fields
 abbrev used_by : RowShelf → ℕ → ℕ

@@ -5,7 +5,7 @@ ghost use Rattle.stamps.specs.Counts.{countable, counts_at, cut};
 ghost use Rattle.stamps.specs.Entries.{entries};
 ghost use Rattle.shelf.specs.Meaning.{version_at};
 ghost use Rattle.drawers.specs.Lists.{Lacks};
-ghost use Rattle.drawers.specs.Places.{version_in};
+ghost use Rattle.drawers.specs.Places.{Lies, version_in};
 ghost use Rattle.pools.specs.PoolMeaning.{pool_meaning, Latest};
 ghost use Rattle.pools.specs.PoolFacts;
 
@@ -29,7 +29,8 @@ impl PoolShelf {
 
     // Where a version is kept.
     fn spot(&self, card: CardNo, version: VersionNo) -> Option<Spot>
-        ensures { option_map (version_in self.now.places self.now.width) result ≡ version_at (pool_meaning self.now) card.0 version.0 }
+        ensures lies { IfSome result (Lies self.now.places) }
+        ensures found { option_map (version_in self.now.places self.now.width) result ≡ version_at (pool_meaning self.now) card.0 version.0 }
     {
         let newest = self.newest_link(card)?;
         if version.0 > newest.number {

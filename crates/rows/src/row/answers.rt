@@ -6,7 +6,7 @@ ghost use Rattle.stamps.specs.Entries.{entries};
 ghost use Rattle.shelf.specs.Meaning.{version_at};
 ghost use Rattle.shelf.specs.Putting.{added};
 ghost use Rattle.drawers.specs.Lists.{Lacks};
-ghost use Rattle.drawers.specs.Places.{version_in, version_of};
+ghost use Rattle.drawers.specs.Places.{Lies, version_in, version_of};
 ghost use Rattle.rows.specs.RowMeaning.{row_meaning, Taken, OneMore};
 ghost use Rattle.rows.specs.RowFacts;
 
@@ -29,7 +29,8 @@ impl RowShelf {
 
     // Where a version is kept.
     fn spot(&self, card: CardNo, version: VersionNo) -> Option<Spot>
-        ensures { option_map (version_in self.now.places self.now.width) result ≡ version_at (row_meaning self.now) card.0 version.0 }
+        ensures lies { IfSome result (Lies self.now.places) }
+        ensures found { option_map (version_in self.now.places self.now.width) result ≡ version_at (row_meaning self.now) card.0 version.0 }
     {
         if version.0 > self.taken(card)? {
             return None;

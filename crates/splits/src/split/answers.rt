@@ -1,10 +1,10 @@
 // What a split answers, and how it takes a version: each by the side that keeps the card.
-ghost use Rattle.std.specs.Prelude.{◌≡◌, ◌+◌, min, if◌then◌else◌, nat_lt};
+ghost use Rattle.std.specs.Prelude.{◌≡◌, ◌+◌, min, if◌then◌else◌, None, nat_lt};
 ghost use Rattle.std.specs.Option.{option_map};
 ghost use Rattle.stamps.specs.Counts.{room, cut};
 ghost use Rattle.stamps.specs.Entries.{entries};
 ghost use Rattle.shelf.specs.Questions.{entry_of, stamp_of};
-ghost use Rattle.splits.specs.Split.{parts, side_of, join, Kept};
+ghost use Rattle.splits.specs.Split.{parts, side_of, located, join, Kept};
 ghost use Rattle.splits.specs.SplitLaws.{split_sound, both_sound};
 
 use crate::split::{Side, SplitShelf};
@@ -52,7 +52,8 @@ impl<L: Shelf, R: Shelf> SplitShelf<L, R> {
 
     // One count of the stamp that a side keeps.
     fn kept_entry(&self, card: CardNo, version: VersionNo, of: CardNo) -> Option<u16>
-        ensures { entry_of (join (parts (L.Shelf.meaning self.now.left) (R.Shelf.meaning self.now.right))) card.0 version.0 of.0 ≡ option_map (λ n. (if nat_lt of.0 (join (parts (L.Shelf.meaning self.now.left) (R.Shelf.meaning self.now.right))).width then n else 0)) result }
+        ensures kept { result ≡ located (side_of (parts (L.Shelf.meaning self.now.left) (R.Shelf.meaning self.now.right)) card.0) None (λ s d. entry_of (parts (L.Shelf.meaning self.now.left) (R.Shelf.meaning self.now.right) s) d version.0 of.0) }
+        ensures whole { entry_of (join (parts (L.Shelf.meaning self.now.left) (R.Shelf.meaning self.now.right))) card.0 version.0 of.0 ≡ option_map (λ n. (if nat_lt of.0 (join (parts (L.Shelf.meaning self.now.left) (R.Shelf.meaning self.now.right))).width then n else 0)) result }
     {
         match self.keeper(card)? {
             (Side::Left, card) => self.left.entry(card, version, of),
@@ -62,7 +63,8 @@ impl<L: Shelf, R: Shelf> SplitShelf<L, R> {
 
     // The whole stamp that a side keeps.
     fn kept_stamp(&self, card: CardNo, version: VersionNo) -> Option<Stamp>
-        ensures { stamp_of (join (parts (L.Shelf.meaning self.now.left) (R.Shelf.meaning self.now.right))) card.0 version.0 ≡ option_map (λ x. cut (join (parts (L.Shelf.meaning self.now.left) (R.Shelf.meaning self.now.right))).width (entries x)) result }
+        ensures kept { option_map entries result ≡ located (side_of (parts (L.Shelf.meaning self.now.left) (R.Shelf.meaning self.now.right)) card.0) None (λ s d. stamp_of (parts (L.Shelf.meaning self.now.left) (R.Shelf.meaning self.now.right) s) d version.0) }
+        ensures whole { stamp_of (join (parts (L.Shelf.meaning self.now.left) (R.Shelf.meaning self.now.right))) card.0 version.0 ≡ option_map (λ x. cut (join (parts (L.Shelf.meaning self.now.left) (R.Shelf.meaning self.now.right))).width (entries x)) result }
     {
         match self.keeper(card)? {
             (Side::Left, card) => self.left.stamp(card, version),

@@ -1,5 +1,7 @@
 // A session with a shelf: makes it, puts versions and asks it, as the lines on standard input say, and prints each line
 // with its answer.
+#![tactic(auto)]
+
 mod answers;
 mod command;
 

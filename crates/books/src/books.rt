@@ -1,5 +1,6 @@
 // The books of a catalogue.
 ghost use Rattle.std.specs.Prelude.{◌≤◌};
+ghost use Rattle.tables.specs.Tables.{table_of};
 
 use journals::Journal;
 use tables::OpenTable;
@@ -19,4 +20,5 @@ pub struct Books {
     given: u32,
     journal: Journal,
     ghost numbers: { given ≤ 1000000 },
+    ghost modest: { (table_of table).cards ≤ 256 },
 }

@@ -4,7 +4,7 @@
 --     counts_text cs              as 4 records: 1 READ, 1 WRIT, 1 DONE, 1 GONE
 --     text_from bs i n cs         what is printed from record i on, with n records to come and the counts so far
 --     dump_text bs                what is printed of a file
-use Rattle.std.specs.Prelude.{ℕ, zero, suc, ◌+◌, List, [], ◌∷◌, ◌++◌, Ok, Err, codes, decimal, Result}
+use Rattle.std.specs.Prelude.{ℕ, zero, suc, ◌+◌, List, ◌++◌, Ok, Err, codes, decimal, Result}
 use Rattle.records.specs.declared.kind.Kind.{Kind}
 use Rattle.records.specs.declared.kind.Kind.TheVariants.{Read, Writ, Done, Gone}
 use Rattle.records.specs.declared.line.Line.{Line}

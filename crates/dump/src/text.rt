@@ -49,7 +49,7 @@ fn write_lines(text: &mut String, file: &[u8]) -> Result<Counts, Stop>
     let mut place = 0;
     while let Some(part) = reader.next() {
         let line = line_at(part, place)?;
-        writeln!(text, "{line}")?;
+        writeln!(text, "{line}").map_err(fmt::Error::from)?;
         counts.add(line.kind);
         place += 1;
     }
@@ -61,10 +61,11 @@ fn write_last(text: &mut String, end: Result<Counts, Stop>) -> fmt::Result
     ensures { OnOk result (Ended (string_bytes text.old) (string_bytes text.new) end) }
 {
     match end {
-        Ok(counts) => writeln!(text, "{counts}"),
-        Err(Stop::Refused(refused)) => writeln!(text, "{refused}"),
-        Err(Stop::Unwritten(error)) => Err(error),
+        Ok(counts) => writeln!(text, "{counts}")?,
+        Err(Stop::Refused(refused)) => writeln!(text, "{refused}")?,
+        Err(Stop::Unwritten(error)) => return Err(error),
     }
+    Ok(())
 }
 
 // All that the program prints of a file.

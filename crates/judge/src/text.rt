@@ -18,9 +18,10 @@ fn write_answer(text: &mut String, answer: Result<Verdict, Refused>) -> fmt::Res
     ensures { OnOk result (string_bytes text.new ≡ string_bytes text.old ++ answer_line answer) }
 {
     match answer {
-        Ok(verdict) => writeln!(text, "{verdict}"),
-        Err(refused) => writeln!(text, "{refused}"),
+        Ok(verdict) => writeln!(text, "{verdict}")?,
+        Err(refused) => writeln!(text, "{refused}")?,
     }
+    Ok(())
 }
 
 // All that the program prints of a file.

@@ -1,4 +1,4 @@
-use Rattle.std.proofs.Common.{◌≡◌, ℕ, List, length, replicate, Ok, Err, Result, sym, refl, ap, ◌∙◌, subst, arith}
+use Rattle.std.proofs.Common.{◌≡◌, ℕ, List, length, replicate, Ok, Err, Result, sym, refl, ap, ◌∙◌, arith}
 use Rattle.records.specs.declared.line.Line.{Line}
 use Rattle.rules.specs.declared.judge_fault.JudgeFault.{JudgeFault}
 use Rattle.rules.specs.Rules.{accepted}

@@ -7,7 +7,7 @@ pub mod refused;
 pub use judge_file::judge;
 pub use records::{Kind, Line, PlacedFault, RECORD_SIZE, RecordFault, RecordReader};
 pub use refused::Refused;
-pub use rules::{JudgeFault, LARGEST_FILE, judge_fault, whole_records};
+pub use rules::{JudgeFault, LARGEST_FILE, judge_fault, whole, whole_records};
 pub use verdicts::{Verdict, verdict};
 
 #[cfg(test)]

@@ -1,0 +1,13 @@
+use Rattle.std.proofs.Common.{sym, arith}
+use Rattle.std.proofs.lemmas.Bool.Decides.{nat_tests}
+use Rattle.plain.proofs.TestLaws.{none_below, none_more, some_hit}
+use Rattle.plain.proofs.commits.has_dirty_read.Goals as goal
+
+pub loop-place-init : goal.loop-place-init
+loop-place-init c = none_below _
+
+pub returns-then-done-eq0 : goal.returns-then-done-eq0
+returns-then-done-eq0 c = sym (some_hit _ _ c.loop-place.place c.loop-place-test.true (grind (arith, nat_tests)))
+
+pub loop-place-preserved : goal.loop-place-preserved
+loop-place-preserved c = none_more _ c.loop-place.place (grind (arith, nat_tests)) c.loop-place.invariant

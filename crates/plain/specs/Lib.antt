@@ -1,0 +1,3 @@
+pub mod Entries
+pub mod Told
+pub mod Judging

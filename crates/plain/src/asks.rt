@@ -1,0 +1,67 @@
+ghost use Rattle.std.specs.Prelude.{◌≡◌};
+ghost use Rattle.rules.specs.Rules.{is_read as read-kind, is_writ as writ-kind};
+ghost use Rattle.plain.specs.Entries.{is_done as done-kind, is_step as stepping, newer, rivals as rival, wrote as written};
+
+use super::entry::Entry;
+use records::Kind;
+use stamps::{CardNo, TxNo};
+
+impl Entry {
+    pub fn is_read(&self) -> bool
+        ensures { result ≡ read-kind self.now.kind }
+    {
+        match self.kind {
+            Kind::Read => true,
+            Kind::Writ | Kind::Done | Kind::Gone => false,
+        }
+    }
+
+    pub fn is_writ(&self) -> bool
+        ensures { result ≡ writ-kind self.now.kind }
+    {
+        match self.kind {
+            Kind::Writ => true,
+            Kind::Read | Kind::Done | Kind::Gone => false,
+        }
+    }
+
+    pub fn is_done(&self) -> bool
+        ensures { result ≡ done-kind self.now.kind }
+    {
+        match self.kind {
+            Kind::Done => true,
+            Kind::Read | Kind::Writ | Kind::Gone => false,
+        }
+    }
+
+    // Whether it reads a version that a transaction wrote.
+    pub fn is_step(&self) -> bool
+        ensures { result ≡ stepping self.now }
+    {
+        self.is_read() && self.version > 0
+    }
+
+    // Whether it is the WRIT of the card by the transaction.
+    pub fn wrote(&self, card: CardNo, transaction: TxNo) -> bool
+        ensures { result ≡ written self.now card.0 transaction.0 }
+    {
+        self.is_writ() && self.transaction.0 == transaction.0 && self.card.0 == card.0
+    }
+
+    // Whether it writes a newer version of the card than `read` reads.
+    pub fn is_newer(&self, read: &Entry) -> bool
+        ensures { result ≡ newer self.now read.now }
+    {
+        self.is_writ() && self.card.0 == read.card.0 && self.version > read.version
+    }
+
+    // Whether they write one card in two transactions.
+    pub fn rivals(&self, other: &Entry) -> bool
+        ensures { result ≡ rival self.now other.now }
+    {
+        self.is_writ()
+            && other.is_writ()
+            && self.card.0 == other.card.0
+            && self.owner != other.owner
+    }
+}

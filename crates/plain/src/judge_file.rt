@@ -1,0 +1,27 @@
+// The judge of history files.
+ghost use Rattle.std.specs.Prelude.{◌≡◌, length, replicate, Err, MatchResult};
+ghost use Rattle.rules.specs.Rules.{accepted};
+ghost use Rattle.history.specs.Judging.{Answers};
+ghost use Rattle.plain.specs.Judging.{Accepts};
+
+use super::answers::judged;
+use rules::JudgeFault;
+use verdicts::Verdict;
+
+// Whether a history file obeys the rules: of each property whether it holds, or why the file is not judged. The marks are
+// working counts, one for each record; whatever they held, all are 0 at the end.
+pub fn judge(file: &[u8], marks: &mut [u32]) -> Result<Verdict, JudgeFault>
+    ensures answer { Answers (accepted file.now (length marks.old)) result }
+    ensures clear { marks.new ≡ replicate (length marks.old) 0 }
+{
+    marks.fill(0);
+    accept(file, marks.len())?;
+    Ok(judged(file, marks))
+}
+
+// Tests a file by the rules, in their order.
+fn accept(file: &[u8], marks: usize) -> Result<(), JudgeFault>
+    ensures { MatchResult result (λ _. Accepts file.now marks) (λ f. accepted file.now marks ≡ Err f) }
+{
+    scan::accept(file, marks)
+}

@@ -4,7 +4,7 @@ ghost use Rattle.rules.specs.Rules.{accepted};
 ghost use Rattle.history.specs.Judging.{Answers};
 ghost use Rattle.plain.specs.Judging.{Accepts};
 
-use super::answers::judged;
+use super::answering::judged;
 use rules::JudgeFault;
 use verdicts::Verdict;
 

@@ -2,7 +2,7 @@
 // follows links between the entries.
 #![tactic(auto)]
 
-mod answers;
+mod answering;
 mod asks;
 mod commits;
 mod conflicts;

@@ -1,6 +1,6 @@
 use Rattle.std.proofs.Common.{◌≡◌, ℕ, ◌-◌, take, replicate, ap, ◌∙◌, subst, arith}
 use Rattle.plain.specs.Told.{Told}
-use Rattle.plain.proofs.answers.judged.Goals as goal
+use Rattle.plain.proofs.answering.judged.Goals as goal
 
 pub returns : goal.returns
 returns c =

@@ -6,7 +6,7 @@ use Rattle.plain.proofs.FactLaws.{told_facts, told_sound}
 use Rattle.plain.proofs.AnswerLaws.{snapshots_decide}
 use Rattle.plain.proofs.DirtyLaws.{reads_decide}
 use Rattle.plain.proofs.ConflictLaws.{conflicts_decide}
-use Rattle.plain.proofs.answers.of_entries.Goals as goal
+use Rattle.plain.proofs.answering.of_entries.Goals as goal
 
 pub returns : goal.returns
 returns c ls told =

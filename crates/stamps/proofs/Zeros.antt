@@ -1,14 +1,21 @@
 -- Lists of counts: zeros, and what is small. Assumes nothing.
-use Rattle.std.proofs.Common.{◌≡◌, ℕ, zero, suc, ◌<◌, ◌≤◌, true, false, cond, ltb, leb, List, [], ◌∷◌, length, get_or, take, replicate, sym, refl, ◌∙◌, arith}
-use Rattle.std.proofs.lemmas.List.{get_or_past}
-use Rattle.std.proofs.lemmas.Bool.{leb-true, lt-leb, le-leb, le-ltb, ltb-false, and_parts, and_right, cond_both, cond-false}
+use Rattle.std.proofs.Common.{◌≡◌, ℕ, zero, suc, ◌<◌, ◌≤◌, true, false, cond, ltb, leb, List, [], ◌∷◌, ◌++◌, length, get_or, take, min, ◌-◌, drop, replicate, sym, refl, ◌∙◌, ⊎_elim, append-nil, length-drop, arith}
+use Rattle.std.proofs.lemmas.List.{get_or_past, drop_all}
+use Rattle.std.proofs.lemmas.Bool.{leb-true, lt-leb, le-leb, le-ltb, ltb-false, and_parts, and_right, cond_both, cond-false, cases_lt}
 use Rattle.std.proofs.lemmas.Bool.Decides.{nat_tests}
+use borrow.Rule.Slice.PartMut.{put_mid, post_of}
 use Rattle.stamps.specs.Counts.{all_small, counts_at, cut}
 
 pub zeros : (n i : ℕ) → get_or (replicate {A = ℕ} n 0) i 0 ≡ 0
 zeros zero i = refl
 zeros (suc n) zero = refl
 zeros (suc n) (suc i) = zeros n i
+
+-- zeros at the end of a list leave its meaning
+pub zeros_behind : (xs ys : List ℕ) (i : ℕ) → ((j : ℕ) → get_or ys j 0 ≡ 0) → get_or (xs ++ ys) i 0 ≡ get_or xs i 0
+zeros_behind [] ys i none = none i
+zeros_behind (x ∷ xs) ys zero none = refl
+zeros_behind (x ∷ xs) ys (suc i) none = zeros_behind xs ys i none
 
 -- one count too large, and the list is not small
 pub not_small : (xs : List ℕ) (i : ℕ) → i < length xs → 65535 < get_or xs i 0 → all_small xs ≡ false
@@ -43,6 +50,20 @@ counts_take zero xs i = grind (arith, nat_tests)
 counts_take (suc n) [] i = grind (arith, nat_tests)
 counts_take (suc n) (x ∷ xs) zero = grind (arith, nat_tests)
 counts_take (suc n) (x ∷ xs) (suc i) = counts_take n xs i ∙ grind (arith, nat_tests)
+
+-- a list whose counts from w on are overwritten by zeros is cut there
+pub cut_behind : (xs ys : List ℕ) (w k i : ℕ) → length xs ≡ 256 → k ≡ min w 256 → ys ≡ replicate {A = ℕ} (256 - k) 0 →
+    get_or (put_mid k (256 - k) xs ys) i 0 ≡ cut w (counts_at xs) i
+cut_behind xs ys w k i full at blank =
+    let rest : post_of k (256 - k) xs ≡ [] = drop_all (256 - k) (drop k xs) (omega (arith, length-drop k xs)) in
+    let tail : (j : ℕ) → get_or (ys ++ post_of k (256 - k) xs) j 0 ≡ 0 =
+    λ j. rw (rest, append-nil, blank) (zeros (256 - k) j) in
+    zeros_behind (take k xs) (ys ++ post_of k (256 - k) xs) i tail
+    ∙ counts_take k xs i
+    ∙ ⊎_elim
+    (λ (low : i < 256). grind (arith, nat_tests))
+    (λ (high : 256 ≤ i). let none = get_or_past xs i 0 (omega arith) in grind (arith, nat_tests, none))
+    (cases_lt i 256)
 
 -- what is copied up to the end or past it is the whole list
 pub copied_all : (xs : List ℕ) (i k : ℕ) → length xs ≤ i → cond (ltb k i) (get_or xs k 0) 0 ≡ get_or xs k 0

@@ -27,10 +27,7 @@ impl Stamp {
         }
         let mut counts = [0; ROOM];
         for (i, n) in list.iter().enumerate() {
-            if *n > 65535 {
-                return None;
-            }
-            counts[i] = *n as u16;
+            counts[i] = u16::try_from(*n).ok()?;
         }
         Some(Stamp { counts })
     }
@@ -39,8 +36,7 @@ impl Stamp {
     pub fn entry(&self, of: CardNo) -> u16
         ensures { result ≡ entries self.now of.0 }
     {
-        let at = of.0 as usize;
-        if at < ROOM { self.counts[at] } else { 0 }
+        self.counts.get(of.0 as usize).copied().unwrap_or(0)
     }
 
     // The counts below `width`, and zeros from there on.
@@ -48,9 +44,7 @@ impl Stamp {
         ensures { entries result ≡ cut width (entries self.now) }
     {
         let mut counts = self.counts;
-        for i in (width as usize).min(ROOM)..ROOM {
-            counts[i] = 0;
-        }
+        counts[(width as usize).min(ROOM)..].fill(0);
         Stamp { counts }
     }
 
@@ -60,11 +54,7 @@ impl Stamp {
         ensures same { counts_at result ≡ entries self.now }
         ensures small { all_small result ≡ true }
     {
-        let mut list = [0; ROOM];
-        for i in 0..ROOM {
-            list[i] = u32::from(self.counts[i]);
-        }
-        list
+        self.counts.map(u32::from)
     }
 
     // The greater count of the two at each card.
@@ -90,9 +80,7 @@ fn raise(mine: &mut [u16; 256], other: &[u16; 256])
     ensures full { length mine.new ≡ 256 }
     ensures raised { (k : ℕ) → slice_index mine.new k ≡ joined (counts_at mine.old) (counts_at other.now) k }
 {
-    for i in 0..ROOM {
-        if mine[i] < other[i] {
-            mine[i] = other[i];
-        }
+    for (i, count) in mine.iter_mut().enumerate() {
+        *count = (*count).max(other[i]);
     }
 }

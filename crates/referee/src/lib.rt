@@ -1,5 +1,5 @@
 // A second judge of history files, to hold the first one against. It keeps maps of its own and finds dependence as the
-// closure of a matrix; with the first judge it shares the record reader and no other code.
+// closure of a matrix; with the first judge it shares the reading of a record and no other code.
 #![tactic(auto)]
 
 pub mod matrix;
@@ -7,7 +7,7 @@ pub mod opinion;
 pub mod second;
 pub mod tables;
 
-pub use opinion::{Letters, Opinion, Refusal};
+pub use opinion::{Cause, Letters, Opinion, Refusal, UnknownNumber};
 pub use second::second_judge;
 
 #[cfg(test)]

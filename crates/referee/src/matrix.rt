@@ -11,19 +11,16 @@ pub struct Matrix {
 impl Matrix {
     // A table of this many rows and columns, all no.
     pub fn blank(heap: Global, side: usize) -> Result<Matrix, AllocError> {
-        let mut rows = Vec::new(heap);
-        for _ in 0..side {
-            rows.push(vec![in heap; 0; side / WORD_BITS + 1]?)?;
-        }
+        let rows = (0..side)
+            .map(|_| vec![in heap; 0; side / WORD_BITS + 1])
+            .try_collect(heap)?;
         Ok(Matrix { rows })
     }
 
     pub fn has(&self, row: usize, column: usize) -> bool {
-        let Some(words) = self.rows.get(row) else {
-            return false;
-        };
-        let word = words.get(column / WORD_BITS).copied().unwrap_or(0);
-        (word >> (column % WORD_BITS)) % 2 == 1
+        self.rows
+            .get(row)
+            .is_some_and(|words| has_bit(words, column))
     }
 
     // Says yes at this row and column; outside of the table nothing is done.
@@ -35,19 +32,10 @@ impl Matrix {
         }
     }
 
-    // Says yes in this row wherever `other` does.
-    fn join(&mut self, row: usize, other: &[u64]) {
-        if let Some(words) = self.rows.get_mut(row) {
-            for (word, more) in words.iter_mut().zip(other.iter()) {
-                *word |= *more;
-            }
-        }
-    }
-
     // Warshall's closure: yes wherever steps of one yes after another lead.
     pub fn close(&mut self) -> Result<(), AllocError> {
-        let side = self.rows.len();
-        for through in 0..side {
+        // Each row is named by its number, since all rows change while it is read.
+        for through in 0..self.rows.len() {
             self.close_through(through)?;
         }
         Ok(())
@@ -55,15 +43,28 @@ impl Matrix {
 
     // Whoever leads to `through` leads wherever that leads.
     fn close_through(&mut self, through: usize) -> Result<(), AllocError> {
-        let onward = match self.rows.get(through) {
-            None => return Ok(()),
-            Some(words) => words.clone()?,
+        let Some(words) = self.rows.get(through) else {
+            return Ok(());
         };
-        for row in 0..self.rows.len() {
-            if self.has(row, through) {
-                self.join(row, onward.as_slice());
+        let onward = words.clone()?;
+        for words in self.rows.iter_mut() {
+            if has_bit(words, through) {
+                join(words, &onward);
             }
         }
         Ok(())
+    }
+}
+
+// Whether a row says yes in this column.
+fn has_bit(words: &[u64], column: usize) -> bool {
+    let word = words.get(column / WORD_BITS).copied().unwrap_or(0);
+    (word >> (column % WORD_BITS)) % 2 == 1
+}
+
+// Says yes in a row wherever `other` does.
+fn join(words: &mut [u64], other: &[u64]) {
+    for (word, more) in words.iter_mut().zip(other) {
+        *word |= *more;
     }
 }

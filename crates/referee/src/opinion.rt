@@ -1,6 +1,6 @@
 use std::fmt;
 
-// Of each property, whether it holds of a history.
+// Of each property, whether it holds of a history; of its own, since the two judges share no answer's type and no text.
 #[derive(Clone, Copy, PartialEq, Debug)]
 pub struct Letters {
     // Only committed versions are read.
@@ -11,19 +11,57 @@ pub struct Letters {
     pub wcf: bool,
 }
 
-// Why a file is not judged: the refusal's number, and the place of a record, counted from 0.
+// What can be wrong with a file, or with the marks for it; each has the number under which it is told.
+#[derive(Clone, Copy, PartialEq, Eq, Debug)]
+pub enum Cause {
+    TooLong = 20,
+    Cut = 21,
+    BadField = 22,
+    OutOfPlace = 23,
+    NoEnd = 24,
+    FewMarks = 25,
+}
+
+impl Cause {
+    pub const ALL: [Cause; 6] = [
+        Cause::TooLong,
+        Cause::Cut,
+        Cause::BadField,
+        Cause::OutOfPlace,
+        Cause::NoEnd,
+        Cause::FewMarks,
+    ];
+
+    pub fn number(self) -> u32 {
+        self as u32
+    }
+}
+
+// A number under which nothing is told.
+#[derive(Clone, Copy, PartialEq, Eq, Debug)]
+pub struct UnknownNumber(pub u32);
+
+impl TryFrom<u32> for Cause {
+    type Error = UnknownNumber;
+
+    fn try_from(number: u32) -> Result<Cause, UnknownNumber> {
+        Cause::ALL
+            .iter()
+            .copied()
+            .find(|cause| cause.number() == number)
+            .ok_or(UnknownNumber(number))
+    }
+}
+
+// Why a file is not judged, and the place of a record, counted from 0.
 #[derive(Clone, Copy, PartialEq, Debug)]
 pub struct Refusal {
-    pub number: u32,
+    pub cause: Cause,
     pub place: usize,
 }
 
 // What a judge answers.
-#[derive(Clone, Copy, PartialEq, Debug)]
-pub enum Opinion {
-    Given(Letters),
-    Refused(Refusal),
-}
+pub type Opinion = Result<Letters, Refusal>;
 
 // The letter for a yes or a no.
 fn letter(holds: bool) -> char {
@@ -36,18 +74,5 @@ impl fmt::Display for Letters {
         let cons = letter(self.cons);
         let wcf = letter(self.wcf);
         write!(f, "ACA={aca} CONS={cons} WCF={wcf}")
-    }
-}
-
-impl fmt::Display for Opinion {
-    fn fmt<W: fmt::Write>(&self, f: &mut fmt::Formatter<W>) -> fmt::Result {
-        match self {
-            Opinion::Given(letters) => write!(f, "{letters}"),
-            Opinion::Refused(refusal) => {
-                let number = refusal.number;
-                let place = refusal.place;
-                write!(f, "REFUSED {number} AT {place}")
-            }
-        }
     }
 }

@@ -1,86 +1,107 @@
 use super::matrix::Matrix;
-use super::opinion::{Letters, Opinion, Refusal};
+use super::opinion::{Cause, Letters, Opinion, Refusal};
 use super::tables::{Tables, Use};
-use records::{Line, RECORD_SIZE, RecordFault, RecordReader};
+use records::{Line, RECORD_SIZE, RecordFault};
 use stamps::{CardNo, TxNo};
 use std::alloc::{AllocError, Global};
 use std::collections::BTreeMap;
 
 const LARGEST_FILE: usize = 65_536;
 
+// Why no verdict is given: the file is refused, or there is no memory for the tables.
+#[derive(Clone, Copy)]
+enum Stop {
+    Refused(Refusal),
+    NoMemory(AllocError),
+}
+
+impl From<Refusal> for Stop {
+    fn from(refusal: Refusal) -> Stop {
+        Stop::Refused(refusal)
+    }
+}
+
+impl From<AllocError> for Stop {
+    fn from(error: AllocError) -> Stop {
+        Stop::NoMemory(error)
+    }
+}
+
 // What is to be said of a file, where the judge is lent this many marks.
 pub fn second_judge(heap: Global, file: &[u8], marks: usize) -> Result<Opinion, AllocError> {
-    if let Some(refusal) = size_refusal(file.len(), marks) {
-        return Ok(Opinion::Refused(refusal));
+    match letters_of(heap, file, marks) {
+        Ok(letters) => Ok(Ok(letters)),
+        Err(Stop::Refused(refusal)) => Ok(Err(refusal)),
+        Err(Stop::NoMemory(error)) => Err(error),
     }
+}
+
+fn letters_of(heap: Global, file: &[u8], marks: usize) -> Result<Letters, Stop> {
+    test_size(file.len(), marks)?;
     let mut tables = Tables::new(heap);
-    if let Some(refusal) = fill(&mut tables, file)? {
-        return Ok(Opinion::Refused(refusal));
-    }
+    fill(&mut tables, file)?;
     if let Some(place) = tables.first_without_end() {
-        return Ok(Opinion::Refused(Refusal { number: 24, place }));
+        return Err(Stop::Refused(Refusal {
+            cause: Cause::NoEnd,
+            place,
+        }));
     }
     let depends = Dependence::of(heap, &tables)?;
-    Ok(Opinion::Given(Letters {
+    Ok(Letters {
         aca: tables.committed_reads,
         cons: snapshots_are_consistent(&tables, &depends),
         wcf: no_writers_conflict(&tables, &depends),
-    }))
+    })
 }
 
 // What is wrong with the number of a file's bytes, or with the number of marks for it.
-fn size_refusal(bytes: usize, marks: usize) -> Option<Refusal> {
+fn test_size(bytes: usize, marks: usize) -> Result<(), Refusal> {
     let records = bytes / RECORD_SIZE;
     if bytes > LARGEST_FILE {
-        Some(Refusal {
-            number: 20,
+        Err(Refusal {
+            cause: Cause::TooLong,
             place: LARGEST_FILE / RECORD_SIZE,
         })
     } else if bytes % RECORD_SIZE != 0 {
-        Some(Refusal {
-            number: 21,
+        Err(Refusal {
+            cause: Cause::Cut,
             place: records,
         })
     } else if marks < records {
-        Some(Refusal {
-            number: 25,
+        Err(Refusal {
+            cause: Cause::FewMarks,
             place: 0,
         })
     } else {
-        None
+        Ok(())
     }
 }
 
 // Takes in record after record, up to the first that is bad or out of place.
-fn fill(tables: &mut Tables, file: &[u8]) -> Result<Option<Refusal>, AllocError> {
-    let mut reader = RecordReader::new(file);
-    for place in 0..file.len() / RECORD_SIZE {
-        let Some(part) = reader.next() else {
-            break;
-        };
-        match Line::decode(part) {
-            Err(fault) => return Ok(Some(bad_record(fault, place))),
-            Ok(line) => {
-                if !tables.fits(&line) {
-                    return Ok(Some(Refusal { number: 23, place }));
-                }
-                tables.take(place, &line)?;
-            }
+fn fill(tables: &mut Tables, file: &[u8]) -> Result<(), Stop> {
+    for (place, part) in file.chunks_exact(RECORD_SIZE).enumerate() {
+        let line = Line::decode(part).map_err(|fault| bad_record(fault, place))?;
+        if !tables.fits(&line) {
+            return Err(Stop::Refused(Refusal {
+                cause: Cause::OutOfPlace,
+                place,
+            }));
         }
+        tables.take(place, &line)?;
     }
-    Ok(None)
+    Ok(())
 }
 
 fn bad_record(fault: RecordFault, place: usize) -> Refusal {
-    let number = match fault {
-        RecordFault::Length => 21,
+    let cause = match fault {
+        RecordFault::Length => Cause::Cut,
         RecordFault::Kind
         | RecordFault::Transaction
         | RecordFault::Card
         | RecordFault::Writer
-        | RecordFault::Words => 22,
+        | RecordFault::Words => Cause::BadField,
     };
-    Refusal { number, place }
+    Refusal { cause, place }
 }
 
 // Who depends on whom: the transactions are numbered in rising order, and a matrix has a row and a column for each.
@@ -138,41 +159,25 @@ fn source(tables: &Tables, writer: TxNo, card: CardNo) -> Option<usize> {
 
 // No transaction depends on the writer of a newer version of a card than it read.
 fn snapshots_are_consistent(tables: &Tables, depends: &Dependence) -> bool {
-    for (read, writer) in tables.reads.iter() {
+    tables.reads.iter().all(|(read, writer)| {
         let version = source(tables, *writer, read.card);
-        for (written, place) in tables.writs.iter() {
-            if written.card == read.card
-                && is_newer(*place, version)
-                && depends.leads(read.transaction, written.transaction)
-            {
-                return false;
-            }
-        }
-    }
-    true
-}
-
-// Whether the WRIT at this place wrote a newer version than the one at the other, or than version 0.
-fn is_newer(place: usize, version: Option<usize>) -> bool {
-    match version {
-        Some(other) => place > other,
-        None => true,
-    }
+        tables.writs.iter().all(|(written, place)| {
+            written.card != read.card
+                || version.is_some_and(|other| *place <= other)
+                || !depends.leads(read.transaction, written.transaction)
+        })
+    })
 }
 
 // Of every two done writers of one card one depends on the other.
 fn no_writers_conflict(tables: &Tables, depends: &Dependence) -> bool {
-    for one in tables.writs.keys() {
-        for other in tables.writs.keys() {
-            if one.card == other.card
-                && one.transaction < other.transaction
-                && conflict(tables, depends, one.transaction, other.transaction)
-            {
-                return false;
-            }
-        }
-    }
-    true
+    tables.writs.keys().all(|one| {
+        tables.writs.keys().all(|other| {
+            one.card != other.card
+                || one.transaction >= other.transaction
+                || !conflict(tables, depends, one.transaction, other.transaction)
+        })
+    })
 }
 
 // Both are done, and neither depends on the other.

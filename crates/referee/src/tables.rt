@@ -75,9 +75,7 @@ impl Tables {
 
     // Takes in the line that stands at this place.
     pub fn take(&mut self, place: usize, line: &Line) -> Result<(), AllocError> {
-        if !self.firsts.contains_key(&line.transaction) {
-            self.firsts.insert(line.transaction, place)?;
-        }
+        self.firsts.entry(line.transaction)?.or_insert(place);
         match line.kind {
             Kind::Read => self.take_read(line),
             Kind::Writ => {
@@ -109,13 +107,11 @@ impl Tables {
 
     // The first place of a record whose transaction has no end.
     pub fn first_without_end(&self) -> Option<usize> {
-        let mut found = None;
-        for (transaction, place) in self.firsts.iter() {
-            if !self.ends.contains_key(transaction) {
-                found = earlier(found, *place);
-            }
-        }
-        found
+        self.firsts
+            .iter()
+            .filter(|(transaction, _)| !self.ends.contains_key(*transaction))
+            .map(|(_, place)| *place)
+            .min()
     }
 }
 
@@ -124,13 +120,5 @@ fn use_of(line: &Line) -> Use {
     Use {
         transaction: line.transaction,
         card: line.card,
-    }
-}
-
-// The earlier of a place, if there is one, and another.
-fn earlier(found: Option<usize>, place: usize) -> Option<usize> {
-    match found {
-        Some(before) => Some(before.min(place)),
-        None => Some(place),
     }
 }

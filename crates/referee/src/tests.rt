@@ -1,4 +1,4 @@
-use super::opinion::{Letters, Opinion, Refusal};
+use super::opinion::Letters;
 use super::second::second_judge;
 use records::{Kind, Line, RECORD_SIZE};
 use stamps::{CardNo, TxNo, Value};
@@ -31,22 +31,30 @@ fn gone(transaction: u32) -> Line {
     line(Kind::Gone, transaction, 0, 0)
 }
 
-fn opinion_of(heap: Global, lines: &[Line]) -> Result<Opinion, Fail> {
+// An opinion with the number of its refusal.
+type Told = Result<Letters, (u32, usize)>;
+
+fn told(heap: Global, file: &[u8], marks: usize) -> Result<Told, Fail> {
+    let opinion = second_judge(heap, file, marks)?;
+    Ok(opinion.map_err(|refusal| (refusal.cause.number(), refusal.place)))
+}
+
+fn opinion_of(heap: Global, lines: &[Line]) -> Result<Told, Fail> {
     let mut file = Vec::new(heap);
     for line in lines {
         let mut record = [0u8; RECORD_SIZE];
         line.encode(&mut record)?;
         file.extend_from_slice(&record)?;
     }
-    Ok(second_judge(heap, file.as_slice(), lines.len())?)
+    told(heap, file.as_slice(), lines.len())
 }
 
-fn given(aca: bool, cons: bool, wcf: bool) -> Opinion {
-    Opinion::Given(Letters { aca, cons, wcf })
+fn given(aca: bool, cons: bool, wcf: bool) -> Told {
+    Ok(Letters { aca, cons, wcf })
 }
 
-fn refused(number: u32, place: usize) -> Opinion {
-    Opinion::Refused(Refusal { number, place })
+fn refused(number: u32, place: usize) -> Told {
+    Err((number, place))
 }
 
 // Transaction 4 depends on 1 by two others, and reads card 4, which 1 has overwritten, from this writer.
@@ -117,13 +125,10 @@ fn judges_a_circle(rt: HostRuntime) -> Result<(), Fail> {
 fn refuses_bytes(rt: HostRuntime) -> Result<(), Fail> {
     let heap = rt.alloc();
     let zeros = vec![in heap; 0; 65_537]?;
-    assert_eq!(rt;
-        second_judge(heap, zeros.as_slice(), 0)?,
-        refused(20, 2_048)
-    );
-    assert_eq!(rt; second_judge(heap, &[0; 33], 0)?, refused(21, 1));
-    assert_eq!(rt; second_judge(heap, &[0; 32], 0)?, refused(25, 0));
-    assert_eq!(rt; second_judge(heap, &[0; 32], 1)?, refused(22, 0));
+    assert_eq!(rt; told(heap, zeros.as_slice(), 0)?, refused(20, 2_048));
+    assert_eq!(rt; told(heap, &[0; 33], 0)?, refused(21, 1));
+    assert_eq!(rt; told(heap, &[0; 32], 0)?, refused(25, 0));
+    assert_eq!(rt; told(heap, &[0; 32], 1)?, refused(22, 0));
     Ok(())
 }
 

@@ -1,11 +1,9 @@
-use super::lines::{done, read, writ};
+use super::lines::{NOBODY, done, read, writ};
 use records::Line;
 use stamps::{CardNo, TxNo, Value};
 use std::alloc::{AllocError, Global};
 
 const CARDS: u32 = 256;
-
-const NOBODY: TxNo = TxNo(0);
 
 const FIRST_CARD: CardNo = CardNo(0);
 
@@ -68,8 +66,7 @@ fn add_writer(
 // This many transactions, from the highest number down, each of which reads and writes the first card.
 fn add_links(lines: &mut Vec<Line>, count: u32) -> Result<(), AllocError> {
     let mut last = NOBODY;
-    for number in (0..count).rev() {
-        let link = TxNo(number + 1);
+    for link in (1..=count).rev().map(TxNo) {
         add_writer(lines, link, FIRST_CARD, last)?;
         lines.push(done(link))?;
         last = link;
@@ -95,8 +92,8 @@ fn add_cycle(lines: &mut Vec<Line>, count: u32) -> Result<(), AllocError> {
         let next = (number + 1) % count;
         lines.push(read(TxNo(number + 1), CardNo(next % CARDS), TxNo(next + 1)))?;
     }
-    for number in 0..count {
-        lines.push(done(TxNo(number + 1)))?;
+    for transaction in (1..=count).map(TxNo) {
+        lines.push(done(transaction))?;
     }
     Ok(())
 }
@@ -104,11 +101,10 @@ fn add_cycle(lines: &mut Vec<Line>, count: u32) -> Result<(), AllocError> {
 fn add_hub(lines: &mut Vec<Line>, count: u32) -> Result<(), AllocError> {
     let hub = TxNo(1_000_000);
     lines.push(read(hub, FIRST_CARD, NOBODY))?;
-    for number in 0..count {
-        let spoke = TxNo(number + 1);
+    for spoke in (1..=count).map(TxNo) {
         let card = CardNo(spoke.0 % CARDS);
         add_writer(lines, spoke, FIRST_CARD, NOBODY)?;
-        if number == 0 {
+        if spoke == TxNo(1) {
             lines.push(writ(hub, FIRST_CARD, Value::BLANK))?;
         }
         add_writer(lines, spoke, card, NOBODY)?;
@@ -123,21 +119,22 @@ fn add_readers(lines: &mut Vec<Line>, count: u32) -> Result<(), AllocError> {
     let writer = TxNo(1_000_000);
     add_writer(lines, writer, FIRST_CARD, NOBODY)?;
     lines.push(done(writer))?;
-    for number in 0..count {
-        lines.push(read(TxNo(number + 1), FIRST_CARD, writer))?;
-        lines.push(done(TxNo(number + 1)))?;
+    for reader in (1..=count).map(TxNo) {
+        lines.push(read(reader, FIRST_CARD, writer))?;
+        lines.push(done(reader))?;
     }
     Ok(())
 }
 
 fn add_wide(lines: &mut Vec<Line>, count: u32) -> Result<(), AllocError> {
-    for number in 0..count {
-        let transaction = TxNo(number + 1);
-        for card in 0..CARDS - 1 {
-            add_writer(lines, transaction, CardNo(card), TxNo(number))?;
+    let mut last = NOBODY;
+    for transaction in (1..=count).map(TxNo) {
+        for card in (0..CARDS - 1).map(CardNo) {
+            add_writer(lines, transaction, card, last)?;
         }
         lines.push(read(transaction, CardNo(CARDS - 1), NOBODY))?;
         lines.push(done(transaction))?;
+        last = transaction;
     }
     Ok(())
 }

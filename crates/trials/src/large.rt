@@ -8,8 +8,10 @@ use stamps::TxNo;
 use std::alloc::{AllocError, Global};
 
 const RECORDS: usize = 2_048;
-// Numbers that the forms do not use: from here on, one for each record.
+// Numbers that the forms do not use, from the first on.
 const SPARE_NUMBERS: u32 = 10_000;
+
+const LAST_NUMBER: u32 = 999_998;
 
 // The largest files: 2,048 records.
 #[derive(Clone, Copy)]
@@ -51,10 +53,9 @@ impl Large {
 
 // Transactions that only commit bring the file to its size.
 fn fill_up(lines: &mut Vec<Line>) -> Result<(), AllocError> {
-    for number in 0..2_048u32 {
-        if lines.len() < RECORDS {
-            lines.push(done(TxNo(SPARE_NUMBERS + number)))?;
-        }
+    let missing = RECORDS.saturating_sub(lines.len());
+    for spare in (SPARE_NUMBERS..LAST_NUMBER).take(missing).map(TxNo) {
+        lines.push(done(spare))?;
     }
     Ok(())
 }

@@ -1,6 +1,7 @@
 // A generator of history files for the judges: good ones, ones that break each property, and damaged ones, from a seed.
 #![tactic(auto)]
 
+pub mod damage;
 pub mod dice;
 pub mod forms;
 pub mod habits;

@@ -2,7 +2,10 @@ use records::{Kind, Line};
 use stamps::{CardNo, TxNo, Value};
 use std::alloc::AllocError;
 
-// The transaction reads the card as the writer wrote it; version 0 where that is 0.
+// The writer of version 0.
+pub const NOBODY: TxNo = TxNo(0);
+
+// The transaction reads the card as the writer wrote it.
 pub fn read(transaction: TxNo, card: CardNo, writer: TxNo) -> Line {
     Line {
         kind: Kind::Read,
@@ -36,69 +39,50 @@ fn end(kind: Kind, transaction: TxNo) -> Line {
         kind,
         transaction,
         card: CardNo(0),
-        writer: TxNo(0),
+        writer: NOBODY,
         value: Value::BLANK,
     }
 }
 
 // Whether a line of this kind by the transaction on the card is among them.
 pub fn told(lines: &[Line], kind: Kind, transaction: TxNo, card: CardNo) -> bool {
-    for line in lines {
-        if line.kind == kind && line.transaction == transaction && line.card == card {
-            return true;
-        }
-    }
-    false
+    lines.iter().any(|line| line.kind == kind
+        && line.transaction == transaction
+        && line.card == card)
 }
 
-// The place of the transaction's first line; behind all lines where it has none.
-pub fn first_place(lines: &[Line], transaction: TxNo) -> usize {
-    for (place, line) in lines.iter().enumerate() {
-        if line.transaction == transaction {
-            return place;
-        }
-    }
-    lines.len()
+// The place of the transaction's first line.
+pub fn first_place(lines: &[Line], transaction: TxNo) -> Option<usize> {
+    lines
+        .iter()
+        .position(|line| line.transaction == transaction)
 }
 
-// Who wrote the card's newest version of those that were committed before this place; 0 for version 0.
-pub fn newest_writer(lines: &[Line], card: CardNo, before: usize) -> TxNo {
-    let mut newest = TxNo(0);
-    for line in lines.iter().take(before) {
-        if line.kind == Kind::Writ
-            && line.card == card
-            && first_done(lines, line.transaction) < before
-        {
-            newest = line.transaction;
-        }
-    }
-    newest
+// Who wrote the card's newest version of those that were committed in these first lines; nobody for version 0.
+pub fn newest_writer(lines: &[Line], card: CardNo) -> TxNo {
+    lines
+        .iter()
+        .filter(|line| {
+            line.kind == Kind::Writ && line.card == card && is_done(lines, line.transaction)
+        })
+        .last()
+        .map_or(NOBODY, |line| line.transaction)
 }
 
-// Who wrote the card's newest version, of those that others than the reader wrote; 0 for version 0.
+// Who wrote the card's newest version, of those that others than the reader wrote; nobody for version 0.
 pub fn latest_writer(lines: &[Line], card: CardNo, reader: TxNo) -> TxNo {
-    let mut latest = TxNo(0);
-    for line in lines {
-        if line.kind == Kind::Writ && line.card == card && line.transaction != reader {
-            latest = line.transaction;
-        }
-    }
-    latest
-}
-
-// The place of the transaction's DONE; behind all lines where it has none.
-fn first_done(lines: &[Line], transaction: TxNo) -> usize {
-    for (place, line) in lines.iter().enumerate() {
-        if line.kind == Kind::Done && line.transaction == transaction {
-            return place;
-        }
-    }
-    lines.len()
+    lines
+        .iter()
+        .filter(|line| {
+            line.kind == Kind::Writ && line.card == card && line.transaction != reader
+        })
+        .last()
+        .map_or(NOBODY, |line| line.transaction)
 }
 
 // Whether the transaction has a DONE.
 pub fn is_done(lines: &[Line], transaction: TxNo) -> bool {
-    first_done(lines, transaction) < lines.len()
+    lines.iter().any(|line| line.kind == Kind::Done && line.transaction == transaction)
 }
 
 // Writes the line's record behind the bytes.

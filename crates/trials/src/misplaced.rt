@@ -1,5 +1,6 @@
+use super::damage::Damage;
 use super::dice::Dice;
-use super::lines::{done, gone, read, writ};
+use super::lines::{NOBODY, done, gone, read, writ};
 use records::{Kind, Line};
 use stamps::{CardNo, TxNo, Value};
 use std::alloc::AllocError;
@@ -35,15 +36,21 @@ impl Misplaced {
         Misplaced::NoEnd,
         Misplaced::NoEnd,
     ];
+}
 
-    // Does this damage somewhere; a history with no line for it stays as it is.
-    pub fn apply(self, lines: &mut Vec<Line>, dice: &mut Dice) -> Result<(), AllocError> {
+impl Damage<Vec<Line>> for Misplaced {
+    // A history with no line for it stays as it is.
+    fn apply(self, lines: &mut Vec<Line>, dice: &mut Dice) -> Result<(), AllocError> {
         match self {
             Misplaced::SecondRead => repeat(lines, Kind::Read, dice),
             Misplaced::SecondWrit => repeat(lines, Kind::Writ, dice),
-            Misplaced::WritUnread => add_unread_writ(lines, dice),
+            Misplaced::WritUnread => add_foreign(lines, dice, |transaction| {
+                writ(transaction, FOREIGN_CARD, Value::BLANK)
+            }),
             Misplaced::AfterEnd => add_after_end(lines, dice),
-            Misplaced::ReadsItself => add_read_of_itself(lines, dice),
+            Misplaced::ReadsItself => add_foreign(lines, dice, |transaction| {
+                read(transaction, FOREIGN_CARD, transaction)
+            }),
             Misplaced::ReadsUnwritten => add_early_read(lines, dice),
             Misplaced::Swapped => {
                 swap_some(lines, dice);
@@ -60,12 +67,12 @@ impl Misplaced {
 // The first line of this kind from a place on that the dice choose, with its place.
 fn some_line(lines: &[Line], kind: Kind, dice: &mut Dice) -> Option<(usize, Line)> {
     let start = dice.place(lines.len());
-    for (place, line) in lines.iter().enumerate() {
-        if start <= place && line.kind == kind {
-            return Some((place, *line));
-        }
-    }
-    None
+    lines
+        .iter()
+        .copied()
+        .enumerate()
+        .skip(start)
+        .find(|(_, line)| line.kind == kind)
 }
 
 // Puts a line somewhere behind this place.
@@ -91,14 +98,16 @@ fn repeat(lines: &mut Vec<Line>, kind: Kind, dice: &mut Dice) -> Result<(), Allo
     }
 }
 
-fn add_unread_writ(lines: &mut Vec<Line>, dice: &mut Dice) -> Result<(), AllocError> {
+// Puts a line somewhere, made for a transaction that has one.
+fn add_foreign<F: FnOnce(TxNo) -> Line>(
+    lines: &mut Vec<Line>,
+    dice: &mut Dice,
+    made: F,
+) -> Result<(), AllocError>
+    requires { F.IsAlwaysCallable made }
+{
     match dice.pick(lines.as_slice()) {
-        Some(line) => insert_behind(
-            lines,
-            0,
-            writ(line.transaction, FOREIGN_CARD, Value::BLANK),
-            dice,
-        ),
+        Some(line) => insert_behind(lines, 0, made(line.transaction), dice),
         None => Ok(()),
     }
 }
@@ -111,21 +120,9 @@ fn add_after_end(lines: &mut Vec<Line>, dice: &mut Dice) -> Result<(), AllocErro
     let late = match dice.below(3) {
         0 => done(end.transaction),
         1 => gone(end.transaction),
-        _ => read(end.transaction, FOREIGN_CARD, TxNo(0)),
+        _ => read(end.transaction, FOREIGN_CARD, NOBODY),
     };
     insert_behind(lines, place, late, dice)
-}
-
-fn add_read_of_itself(lines: &mut Vec<Line>, dice: &mut Dice) -> Result<(), AllocError> {
-    match dice.pick(lines.as_slice()) {
-        Some(line) => insert_behind(
-            lines,
-            0,
-            read(line.transaction, FOREIGN_CARD, line.transaction),
-            dice,
-        ),
-        None => Ok(()),
-    }
 }
 
 // Reads what a WRIT at that place or further down writes.

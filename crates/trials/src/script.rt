@@ -1,11 +1,12 @@
 use super::dice::Dice;
 use super::habits::Habits;
 use super::lines::{
-    done, first_place, gone, is_done, latest_writer, newest_writer, read, told, writ,
+    NOBODY, done, first_place, gone, is_done, latest_writer, newest_writer, read, told, writ,
 };
 use records::{Kind, Line};
 use stamps::{CardNo, TxNo, Value};
 use std::alloc::{AllocError, Global};
+use std::mem;
 
 const TRANSACTION_NUMBERS: u64 = 1_000_000;
 // More steps than any history that is asked for takes.
@@ -53,15 +54,7 @@ impl Script {
         }
         script.end_all()?;
         script.fill_up(records)?;
-        let Script {
-            heap: _,
-            dice: _,
-            habits: _,
-            lines,
-            open: _,
-            upcoming: _,
-            stride: _,
-        } = script;
+        let Script { lines, .. } = script;
         Ok(lines)
     }
 
@@ -111,46 +104,55 @@ impl Script {
     fn choose_writer(&mut self, transaction: TxNo, card: CardNo) -> Result<TxNo, AllocError> {
         let habits = self.habits;
         if self.dice.chance(habits.dirty) {
-            self.some_writer(transaction, card, false)
+            self.some_writer(transaction, card, |_, _| true)
         } else if self.dice.chance(habits.latest) {
             Ok(latest_writer(self.lines.as_slice(), card, transaction))
         } else if self.dice.chance(habits.stale) {
-            self.some_writer(transaction, card, true)
+            self.some_writer(transaction, card, is_done)
         } else if self.dice.chance(habits.fresh) {
-            let lines = self.lines.as_slice();
-            Ok(newest_writer(lines, card, lines.len()))
+            Ok(newest_writer(self.lines.as_slice(), card))
         } else {
-            let lines = self.lines.as_slice();
-            Ok(newest_writer(lines, card, first_place(lines, transaction)))
+            Ok(newest_writer(self.lines_before(transaction), card))
         }
     }
 
-    // Another writer of the card, any or any that is done, or nobody.
-    fn some_writer(
+    // The lines before the transaction's first.
+    fn lines_before(&self, transaction: TxNo) -> &[Line] {
+        let lines = self.lines.as_slice();
+        first_place(lines, transaction)
+            .and_then(|place| lines.get(..place))
+            .unwrap_or(lines)
+    }
+
+    // Another writer of the card, of those that are asked for, or nobody.
+    fn some_writer<F: Fn(&[Line], TxNo) -> bool>(
         &mut self,
         reader: TxNo,
         card: CardNo,
-        only_done: bool,
-    ) -> Result<TxNo, AllocError> {
-        let mut writers = vec![in self.heap; TxNo(0)]?;
-        for line in self.lines.iter() {
+        is_asked: F,
+    ) -> Result<TxNo, AllocError>
+        requires { F.IsAlwaysCallable is_asked }
+    {
+        let mut writers = vec![in self.heap; NOBODY]?;
+        let lines = self.lines.as_slice();
+        for line in lines {
             let fits = line.kind == Kind::Writ && line.card == card && line.transaction != reader;
-            if fits && (!only_done || is_done(self.lines.as_slice(), line.transaction)) {
+            if fits && is_asked(lines, line.transaction) {
                 writers.push(line.transaction)?;
             }
         }
-        Ok(self.dice.pick(writers.as_slice()).unwrap_or(TxNo(0)))
+        Ok(self.dice.pick(writers.as_slice()).unwrap_or(NOBODY))
     }
 
     // The transaction writes a card that it has read, if one is left.
     fn write_some(&mut self, transaction: TxNo) -> Result<(), AllocError> {
-        let mut cards = Vec::new(self.heap);
-        for line in self.lines.iter() {
-            let own = line.kind == Kind::Read && line.transaction == transaction;
-            if own && !told(self.lines.as_slice(), Kind::Writ, transaction, line.card) {
-                cards.push(line.card)?;
-            }
-        }
+        let lines = self.lines.as_slice();
+        let cards: Vec<CardNo> = lines
+            .iter()
+            .filter(|line| line.kind == Kind::Read && line.transaction == transaction)
+            .map(|line| line.card)
+            .filter(|card| !told(lines, Kind::Writ, transaction, *card))
+            .collect(self.heap)?;
         if let Some(card) = self.dice.pick(cards.as_slice()) {
             let value = Value {
                 first: self.dice.throw(),
@@ -162,13 +164,7 @@ impl Script {
     }
 
     fn end(&mut self, transaction: TxNo) -> Result<(), AllocError> {
-        let mut still_open = Vec::new(self.heap);
-        for other in self.open.iter() {
-            if *other != transaction {
-                still_open.push(*other)?;
-            }
-        }
-        self.open = still_open;
+        self.open.retain(|other| *other != transaction);
         self.push_end(transaction)
     }
 
@@ -187,24 +183,20 @@ impl Script {
     // Whether the transaction read the newest committed version of each card that it wrote.
     fn is_certified(&self, transaction: TxNo) -> bool {
         let lines = self.lines.as_slice();
-        for line in lines {
-            let wrote = line.transaction == transaction
-                && told(lines, Kind::Writ, transaction, line.card);
-            if wrote
-                && line.kind == Kind::Read
-                && line.writer != newest_writer(lines, line.card, lines.len())
-            {
-                return false;
-            }
-        }
-        true
+        lines
+            .iter()
+            .filter(|line| {
+                line.kind == Kind::Read
+                    && line.transaction == transaction
+                    && told(lines, Kind::Writ, transaction, line.card)
+            })
+            .all(|line| line.writer == newest_writer(lines, line.card))
     }
 
     fn end_all(&mut self) -> Result<(), AllocError> {
-        for _ in 0..self.open.len() {
-            if let Some(transaction) = self.open.pop() {
-                self.push_end(transaction)?;
-            }
+        let open = mem::replace(&mut self.open, Vec::new(self.heap));
+        for transaction in open.into_iter().rev() {
+            self.push_end(transaction)?;
         }
         Ok(())
     }

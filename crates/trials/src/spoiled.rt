@@ -1,3 +1,4 @@
+use super::damage::Damage;
 use super::dice::Dice;
 use super::trial::Trial;
 use records::RECORD_SIZE;
@@ -33,9 +34,10 @@ impl Spoiled {
         Spoiled::Cut,
         Spoiled::TooLong,
     ];
+}
 
-    // Does this damage somewhere.
-    pub fn apply(self, trial: &mut Trial, dice: &mut Dice) -> Result<(), AllocError> {
+impl Damage<Trial> for Spoiled {
+    fn apply(self, trial: &mut Trial, dice: &mut Dice) -> Result<(), AllocError> {
         let size = trial.file.len();
         match self {
             Spoiled::Field => set_field(trial, dice),

@@ -1,3 +1,4 @@
+use super::damage::spoil;
 use super::dice::Dice;
 use super::forms::Form;
 use super::habits::Shape;
@@ -53,10 +54,10 @@ impl Trial {
     pub fn small(heap: Global, seed: u64) -> Result<Trial, AllocError> {
         let mut dice = Dice::new(seed);
         let mut lines = small_lines(heap, &mut dice)?;
-        misplace(&mut lines, &mut dice)?;
+        spoil(&mut lines, &Misplaced::ALL, &mut dice)?;
         let mut trial = Trial::of(heap, lines.as_slice())?;
         trial.marks = trial.marks.saturating_add(dice.place(3));
-        trial.spoil(&mut dice)?;
+        spoil(&mut trial, &Spoiled::ALL, &mut dice)?;
         Ok(trial)
     }
 
@@ -74,16 +75,6 @@ impl Trial {
         }
         Ok(trial)
     }
-
-    // Damages the file, its length or the marks: not at all, once or twice.
-    fn spoil(&mut self, dice: &mut Dice) -> Result<(), AllocError> {
-        for _ in 0..dice.pick(&[0, 0, 0, 0, 0, 1, 2]).unwrap_or(0) {
-            if let Some(spoiled) = dice.pick(&Spoiled::ALL) {
-                spoiled.apply(self, dice)?;
-            }
-        }
-        Ok(())
-    }
 }
 
 // One history in six has a form, the others have a shape.
@@ -96,14 +87,4 @@ fn small_lines(heap: Global, dice: &mut Dice) -> Result<Vec<Line>, AllocError> {
         let records = dice.place(72);
         Script::play(heap, Dice::new(dice.throw()), shape.habits(), records)
     }
-}
-
-// Damages the lines: not at all, once or twice.
-fn misplace(lines: &mut Vec<Line>, dice: &mut Dice) -> Result<(), AllocError> {
-    for _ in 0..dice.pick(&[0, 0, 0, 0, 0, 1, 2]).unwrap_or(0) {
-        if let Some(misplaced) = dice.pick(&Misplaced::ALL) {
-            misplaced.apply(lines, dice)?;
-        }
-    }
-    Ok(())
 }

@@ -1,27 +1,21 @@
-use referee::{Letters, Opinion};
+use referee::{Cause, Letters, Opinion};
 use std::fmt;
 
 // An opinion without the place of a refusal.
 #[derive(Clone, Copy, PartialEq)]
-pub enum Answer {
-    Given(Letters),
-    Refused(u32),
-}
+pub struct Answer(pub Result<Letters, Cause>);
 
-impl Answer {
-    pub fn of(opinion: &Opinion) -> Answer {
-        match opinion {
-            Opinion::Given(letters) => Answer::Given(*letters),
-            Opinion::Refused(refusal) => Answer::Refused(refusal.number),
-        }
+impl From<Opinion> for Answer {
+    fn from(opinion: Opinion) -> Answer {
+        Answer(opinion.map_err(|refusal| refusal.cause))
     }
 }
 
 impl fmt::Display for Answer {
     fn fmt<W: fmt::Write>(&self, f: &mut fmt::Formatter<W>) -> fmt::Result {
-        match self {
-            Answer::Given(letters) => write!(f, "{letters}"),
-            Answer::Refused(number) => write!(f, "REFUSED {number}"),
+        match &self.0 {
+            Ok(letters) => write!(f, "{letters}"),
+            Err(cause) => write!(f, "REFUSED {}", cause.number()),
         }
     }
 }

@@ -2,7 +2,7 @@ ghost use Rattle.std.specs.Prelude.{◌≤◌, vec_len};
 
 use super::answer::Answer;
 use super::first::first_opinion;
-use referee::{Letters, Opinion, second_judge};
+use referee::{Cause, Letters, Opinion, second_judge};
 use std::alloc::{AllocError, Global};
 use std::fmt;
 use trials::Trial;
@@ -42,13 +42,10 @@ impl Comparison {
     fn times(&self, answer: Answer) -> usize
         ensures { result ≤ vec_len self.now.opinions }
     {
-        let mut times = 0;
-        for opinion in self.opinions.iter() {
-            if Answer::of(opinion) == answer {
-                times += 1;
-            }
-        }
-        times
+        self.opinions
+            .iter()
+            .filter(|opinion| Answer::from(**opinion) == answer)
+            .count()
     }
 
     fn show_answer<W: fmt::Write>(&self, answer: Answer, f: &mut fmt::Formatter<W>) -> fmt::Result {
@@ -61,12 +58,12 @@ impl Comparison {
         for aca in [true, false] {
             for cons in [true, false] {
                 for wcf in [true, false] {
-                    self.show_answer(Answer::Given(Letters { aca, cons, wcf }), f)?;
+                    self.show_answer(Answer(Ok(Letters { aca, cons, wcf })), f)?;
                 }
             }
         }
-        for number in 20..26u32 {
-            self.show_answer(Answer::Refused(number), f)?;
+        for cause in Cause::ALL {
+            self.show_answer(Answer(Err(cause)), f)?;
         }
         Ok(())
     }

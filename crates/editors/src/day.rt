@@ -2,44 +2,44 @@
 ghost use Rattle.std.specs.Prelude.{◌≤◌, length, IfOk};
 
 use crate::parse::{BooksSize, Instruction, parse};
-use crate::show::show;
+use crate::show::Shown;
 use catalogue::BooksMemory;
 use sessions::{Answer, Command, history_file, run};
 use shelves::Shelf;
 use std::alloc::{AllocError, Global};
-use std::{fs, io};
+use std::{fs, io, slice};
 
-// Looks for the line that asks for books, and carries out the rest of the script.
+// The lines of a script that are still to come.
+pub(crate) type Lines<'a> = slice::Iter<'a, String>;
+
+// Goes on to the line that asks for books, and carries out the rest of the script.
 pub(crate) fn day<S: Shelf + Drop>(
     rt: &HostRuntime,
     mut shelf: S,
-    lines: &[String],
+    mut lines: Lines<'_>,
 ) -> io::Result<()> {
     let cards = shelf.cards();
-    let (books, first) = find_books(rt, lines)?;
-    let Some(size) = books else {
+    let Some(size) = find_books(rt, &mut lines)? else {
         return Ok(());
     };
     let memory = BooksMemory::reserve(rt.alloc(), size.places, cards, size.lines)?;
-    let lines = &lines[first..];
+    let lines = lines.as_slice();
     let script = script_of(rt.alloc(), lines)?;
     let answers = run(rt.alloc(), memory, &mut shelf, &script)?;
     print_all(rt, lines, &answers, cards)
 }
 
-// Which books are asked for, and which line is the next.
-fn find_books(rt: &HostRuntime, lines: &[String]) -> io::Result<(Option<BooksSize>, usize)>
-    ensures { IfOk result (λ p. p.1 ≤ length lines.now) }
-{
-    for (i, line) in lines.iter().enumerate() {
+// Which books are asked for.
+fn find_books(rt: &HostRuntime, lines: &mut Lines<'_>) -> io::Result<Option<BooksSize>> {
+    for line in lines {
         let text = line.as_str();
         if let Some(Instruction::Books(size)) = parse(text) {
             println!(rt; "{text} = ok")?;
-            return Ok((Some(size), i + 1));
+            return Ok(Some(size));
         }
         println!(rt; "{text} = not understood")?;
     }
-    Ok((None, lines.len()))
+    Ok(None)
 }
 
 // The command of a line that is carried out; to save the journal it is asked for.
@@ -52,13 +52,10 @@ fn command_of(line: &str) -> Option<Command> {
 }
 
 fn script_of(heap: Global, lines: &[String]) -> Result<Vec<Command>, AllocError> {
-    let mut script = Vec::new(heap);
-    for line in lines {
-        if let Some(command) = command_of(line.as_str()) {
-            script.push(command)?;
-        }
-    }
-    Ok(script)
+    lines
+        .iter()
+        .filter_map(|line| command_of(line.as_str()))
+        .collect(heap)
 }
 
 // Prints each line with its answer.
@@ -74,7 +71,7 @@ fn print_all(rt: &HostRuntime, lines: &[String], answers: &[Answer], cards: u32)
             print!(rt; "{text} = ")?;
             match file_of(text) {
                 Some(file) => save(rt, file, answer)?,
-                None => show(rt, answer, cards)?,
+                None => println!(rt; "{}", Shown { answer, cards })?,
             }
         }
     }
@@ -84,11 +81,8 @@ fn print_all(rt: &HostRuntime, lines: &[String], answers: &[Answer], cards: u32)
 // The file of a `save`.
 fn file_of(line: &str) -> Option<&str> {
     let mut words = line.split_whitespace();
-    if words.next()? == "save" {
-        words.next()
-    } else {
-        None
-    }
+    let name = words.next()?;
+    words.next().filter(|_| name == "save")
 }
 
 // Writes the journal as a history file.

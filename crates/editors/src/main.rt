@@ -1,14 +1,12 @@
 // The editors' program: reads a script from standard input, carries it out on a shelf, and prints each command with its answer.
 #![tactic(auto)]
 
-ghost use Rattle.std.specs.Prelude.{◌≤◌, length, IfOk};
-
 mod day;
 mod make;
 mod parse;
 mod show;
 
-use day::day;
+use day::{Lines, day};
 use make::{Made, make_shelf};
 use parse::{Instruction, parse};
 use std::io;
@@ -33,11 +31,10 @@ fn is_passed_over(line: &str) -> bool {
 
 // First the shelf, then the books, then the day.
 fn session(rt: &HostRuntime, lines: &[String]) -> io::Result<()> {
-    let (shelf, first) = find_shelf(rt, lines)?;
-    let Some(shelf) = shelf else {
+    let mut lines = lines.iter();
+    let Some(shelf) = find_shelf(rt, &mut lines)? else {
         return Ok(());
     };
-    let lines = &lines[first..];
     match shelf {
         Made::Row(shelf) => day(rt, shelf, lines),
         Made::Pool(shelf) => day(rt, shelf, lines),
@@ -46,23 +43,20 @@ fn session(rt: &HostRuntime, lines: &[String]) -> io::Result<()> {
     }
 }
 
-// Looks for the line that asks for a shelf, and makes it; and says which line is the next.
-fn find_shelf(rt: &HostRuntime, lines: &[String]) -> io::Result<(Option<Made>, usize)>
-    ensures { IfOk result (λ p. p.1 ≤ length lines.now) }
-{
-    for (i, line) in lines.iter().enumerate() {
+// Goes on to the line that asks for a shelf, and makes it.
+fn find_shelf(rt: &HostRuntime, lines: &mut Lines<'_>) -> io::Result<Option<Made>> {
+    for line in lines {
         let text = line.as_str();
-        match parse(text) {
-            Some(Instruction::Shelf(make)) => {
-                let (shelf, fits) = make_shelf(rt.alloc(), make)?;
-                match fits {
-                    Ok(()) => println!(rt; "{text} = ok")?,
-                    Err(refusal) => println!(rt; "{text} = REFUSED {}", refusal.number())?,
-                }
-                return Ok((Some(shelf), i + 1));
-            }
-            _ => println!(rt; "{text} = not understood")?,
+        let Some(Instruction::Shelf(make)) = parse(text) else {
+            println!(rt; "{text} = not understood")?;
+            continue;
+        };
+        let (shelf, fits) = make_shelf(rt.alloc(), make)?;
+        match fits {
+            Ok(()) => println!(rt; "{text} = ok")?,
+            Err(refusal) => println!(rt; "{text} = REFUSED {}", refusal.number())?,
         }
+        return Ok(Some(shelf));
     }
-    Ok((None, lines.len()))
+    Ok(None)
 }

@@ -2,78 +2,79 @@
 use records::Line;
 use sessions::Answer;
 use stamps::{CardNo, Stamp};
-use std::io;
+use std::fmt;
 use transactions::{Event, Reading, Refusal};
 
-// Prints an answer; a stamp has an entry for each card of the shelf.
-pub(crate) fn show(rt: &HostRuntime, answer: &Answer, cards: u32) -> io::Result<()> {
-    match answer {
-        Answer::SetUp(granted) => grant(rt, *granted),
-        Answer::Call(event) => call(rt, *event),
-        Answer::NoSlip => println!(rt; "no slip"),
-        Answer::SlipsHeld => println!(rt; "slips held"),
-        Answer::Versions(_, count) => versions(rt, *count),
-        Answer::Stamp(_, _, stamp) => counts(rt, *stamp, cards),
-        Answer::Journal(lines) => journal(rt, lines),
-    }
+// An answer as it is printed; a stamp has an entry for each card of the shelf.
+#[derive(Clone, Copy)]
+pub(crate) struct Shown<'a> {
+    pub(crate) answer: &'a Answer,
+    pub(crate) cards: u32,
 }
 
-fn call(rt: &HostRuntime, event: Event) -> io::Result<()> {
-    match event {
-        Event::Open(Ok(number)) => println!(rt; "{}", number.0),
-        Event::Open(Err(refusal)) => refused(rt, refusal),
-        Event::Read(_, _, Ok(reading)) => read(rt, reading),
-        Event::Read(_, _, Err(refusal)) => refused(rt, refusal),
-        Event::Draft(_, _, _, granted) | Event::Commit(_, granted) | Event::Abandon(_, granted) => {
-            grant(rt, granted)
+impl fmt::Display for Shown<'_> {
+    fn fmt<W: fmt::Write>(&self, f: &mut fmt::Formatter<W>) -> fmt::Result {
+        match self.answer {
+            Answer::SetUp(granted) => show_grant(*granted, f),
+            Answer::Call(event) => show_call(*event, f),
+            Answer::NoSlip => write!(f, "no slip"),
+            Answer::SlipsHeld => write!(f, "slips held"),
+            Answer::Versions(_, Some(count)) => write!(f, "{count}"),
+            Answer::Versions(_, None) | Answer::Stamp(_, _, None) => write!(f, "absent"),
+            Answer::Stamp(_, _, Some(stamp)) => show_counts(stamp, self.cards, f),
+            Answer::Journal(lines) => show_journal(lines, f),
         }
-        Event::Close => println!(rt; "ok"),
     }
 }
 
-fn grant(rt: &HostRuntime, granted: Result<(), Refusal>) -> io::Result<()> {
+fn show_call<W: fmt::Write>(event: Event, f: &mut fmt::Formatter<W>) -> fmt::Result {
+    match event {
+        Event::Open(Ok(number)) => write!(f, "{number}"),
+        Event::Read(_, _, Ok(reading)) => show_reading(reading, f),
+        Event::Open(Err(refusal)) | Event::Read(_, _, Err(refusal)) => show_refusal(refusal, f),
+        Event::Draft(_, _, _, granted) | Event::Commit(_, granted) | Event::Abandon(_, granted) => {
+            show_grant(granted, f)
+        }
+        Event::Close => write!(f, "ok"),
+    }
+}
+
+fn show_grant<W: fmt::Write>(
+    granted: Result<(), Refusal>,
+    f: &mut fmt::Formatter<W>,
+) -> fmt::Result {
     match granted {
-        Ok(()) => println!(rt; "ok"),
-        Err(refusal) => refused(rt, refusal),
+        Ok(()) => write!(f, "ok"),
+        Err(refusal) => show_refusal(refusal, f),
     }
 }
 
-fn refused(rt: &HostRuntime, refusal: Refusal) -> io::Result<()> {
-    println!(rt; "REFUSED {}", refusal.number())
+fn show_refusal<W: fmt::Write>(refusal: Refusal, f: &mut fmt::Formatter<W>) -> fmt::Result {
+    write!(f, "REFUSED {}", refusal.number())
 }
 
-fn read(rt: &HostRuntime, reading: Reading) -> io::Result<()> {
-    let version = reading.version.0;
+fn show_reading<W: fmt::Write>(reading: Reading, f: &mut fmt::Formatter<W>) -> fmt::Result {
+    let version = reading.version;
     let first = reading.value.first;
     let second = reading.value.second;
-    println!(rt; "version {version} words {first} {second}")
+    write!(f, "version {version} words {first} {second}")
 }
 
-fn versions(rt: &HostRuntime, count: Option<u32>) -> io::Result<()> {
-    match count {
-        Some(count) => println!(rt; "{count}"),
-        None => println!(rt; "absent"),
-    }
-}
-
-fn counts(rt: &HostRuntime, stamp: Option<Stamp>, cards: u32) -> io::Result<()> {
-    let Some(stamp) = stamp else {
-        return println!(rt; "absent");
-    };
-    for card in 0..cards {
-        if card > 0 {
-            print!(rt; " ")?;
+fn show_counts<W: fmt::Write>(stamp: &Stamp, cards: u32, f: &mut fmt::Formatter<W>) -> fmt::Result {
+    for card in (0..cards).map(CardNo) {
+        if card > CardNo(0) {
+            write!(f, " ")?;
         }
-        print!(rt; "{}", stamp.entry(CardNo(card)))?;
+        write!(f, "{}", stamp.entry(card))?;
     }
-    println!(rt; "")
+    Ok(())
 }
 
 // How many lines there are, and each below.
-fn journal(rt: &HostRuntime, lines: &[Line]) -> io::Result<()> {
-    println!(rt; "{}", lines.len())?;
+fn show_journal<W: fmt::Write>(lines: &[Line], f: &mut fmt::Formatter<W>) -> fmt::Result {
+    write!(f, "{}", lines.len())?;
     for line in lines {
-        println!(rt; "{line}")?;
+        write!(f, "\n{line}")?;
     }
     Ok(())
 }

@@ -2,7 +2,7 @@ use crate::script::{EVENING, MORNING, OPENS};
 use catalogue::BooksMemory;
 use sessions::{Answer, Command, run};
 use shelf::Shelf;
-use shelves::{PoolMemory, PoolShelf, RowMemory, RowShelf, SplitShelf};
+use shelves::{PoolMemory, PoolShelf, RowMemory, RowShelf, Size, SplitShelf};
 use stamps::{CardNo, Stamp};
 use std::alloc::{AllocError, Global};
 use std::test::Fail;
@@ -121,11 +121,23 @@ fn goes<S: Shelf>(heap: Global, shelf: &mut S) -> Result<bool, AllocError> {
 }
 
 fn row(heap: Global, cards: u32) -> Result<RowShelf, AllocError> {
-    Ok(RowShelf::new(RowMemory::reserve(heap, cards, 4)?, cards, 3, 4))
+    let size = Size {
+        cards,
+        width: 3,
+        places: 4,
+    };
+    let memory = RowMemory::reserve(heap, size.cards, size.places)?;
+    Ok(RowShelf::new(memory, size))
 }
 
 fn pool(heap: Global, cards: u32) -> Result<PoolShelf, AllocError> {
-    Ok(PoolShelf::new(PoolMemory::reserve(heap, cards, 9)?, cards, 3, 9))
+    let size = Size {
+        cards,
+        width: 3,
+        places: 9,
+    };
+    let memory = PoolMemory::reserve(heap, size.cards, size.places)?;
+    Ok(PoolShelf::new(memory, size))
 }
 
 #[test]

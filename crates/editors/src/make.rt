@@ -1,6 +1,6 @@
 // The shelves that a script can ask for.
-use crate::parse::{Make, Size};
-use shelves::{CheckRefusal, PoolMemory, PoolShelf, RowMemory, RowShelf, SplitShelf};
+use crate::parse::Make;
+use shelves::{CheckRefusal, PoolMemory, PoolShelf, RowMemory, RowShelf, Size, SplitShelf};
 use std::alloc::{AllocError, Global};
 
 #[derive(Drop)]
@@ -78,8 +78,8 @@ fn row(heap: Global, size: Size) -> Result<Checked<RowShelf>, AllocError> {
         size.cards.min(MOST_CARDS),
         size.places.min(ROW_PLACES),
     )?;
-    let fits = RowShelf::check(&memory, size.cards, size.width, size.places);
-    let shelf = RowShelf::new(memory, size.cards, size.width, size.places);
+    let fits = RowShelf::check(&memory, size);
+    let shelf = RowShelf::new(memory, size);
     Ok((shelf, fits))
 }
 
@@ -89,7 +89,7 @@ fn pool(heap: Global, size: Size) -> Result<Checked<PoolShelf>, AllocError> {
         size.cards.min(MOST_CARDS),
         size.places.min(POOL_PLACES),
     )?;
-    let fits = PoolShelf::check(&memory, size.cards, size.width, size.places);
-    let shelf = PoolShelf::new(memory, size.cards, size.width, size.places);
+    let fits = PoolShelf::check(&memory, size);
+    let shelf = PoolShelf::new(memory, size);
     Ok((shelf, fits))
 }

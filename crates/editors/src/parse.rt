@@ -1,15 +1,8 @@
 // The lines of a script, and how they are read.
 use sessions::Command;
+use shelves::Size;
 use stamps::{CardNo, TxNo, Value, VersionNo};
 use std::str::SplitWhitespace;
-
-// How large a row or a pool is to be.
-#[derive(Clone, Copy)]
-pub(crate) struct Size {
-    pub(crate) cards: u32,
-    pub(crate) width: u32,
-    pub(crate) places: u32,
-}
 
 // Which shelf to make.
 #[derive(Clone, Copy)]

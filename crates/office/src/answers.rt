@@ -1,7 +1,7 @@
 // What a session answers to each command.
-use crate::command::{Command, Entry, Make, Question, Size};
+use crate::command::{Command, Entry, Make, Question};
 use shelves::{
-    CheckRefusal, PoolMemory, PoolShelf, PutRefusal, RowMemory, RowShelf, Shelf, SplitShelf,
+    CheckRefusal, PoolMemory, PoolShelf, PutRefusal, RowMemory, RowShelf, Shelf, Size, SplitShelf,
 };
 use stamps::{CardNo, VersionNo};
 use std::alloc::{AllocError, Global};
@@ -57,20 +57,14 @@ fn made(heap: Global, held: &mut Held, make: Make) -> Result<Result<(), CheckRef
 
 fn row(heap: Global, size: Size) -> Result<(RowShelf, Result<(), CheckRefusal>), AllocError> {
     let memory = RowMemory::reserve(heap, size.cards, size.places)?;
-    let fits = RowShelf::check(&memory, size.cards, size.width, size.places);
-    Ok((
-        RowShelf::new(memory, size.cards, size.width, size.places),
-        fits,
-    ))
+    let fits = RowShelf::check(&memory, size);
+    Ok((RowShelf::new(memory, size), fits))
 }
 
 fn pool(heap: Global, size: Size) -> Result<(PoolShelf, Result<(), CheckRefusal>), AllocError> {
     let memory = PoolMemory::reserve(heap, size.cards, size.places)?;
-    let fits = PoolShelf::check(&memory, size.cards, size.width, size.places);
-    Ok((
-        PoolShelf::new(memory, size.cards, size.width, size.places),
-        fits,
-    ))
+    let fits = PoolShelf::check(&memory, size);
+    Ok((PoolShelf::new(memory, size), fits))
 }
 
 // Prints what a shelf answers.

@@ -1,15 +1,8 @@
 // The commands of a session, and how a line is read.
+use shelves::Size;
 use stamps::{CardNo, TxNo, Value, VersionNo};
 use std::alloc::{AllocError, Global};
 use std::str::SplitWhitespace;
-
-// How large a shelf is to be.
-#[derive(Clone, Copy)]
-pub struct Size {
-    pub cards: u32,
-    pub width: u32,
-    pub places: u32,
-}
 
 // Which shelf to make.
 #[derive(Clone, Copy)]

@@ -3,6 +3,8 @@
 
 pub mod refusal;
 mod shelf;
+mod size;
 
 pub use refusal::{CheckRefusal, PutRefusal};
 pub use shelf::Shelf;
+pub use size::Size;

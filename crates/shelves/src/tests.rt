@@ -1,16 +1,28 @@
 // One table of steps over every make of shelf.
-use crate::{PoolMemory, PoolShelf, PutRefusal, RowMemory, RowShelf, Shelf, SplitShelf};
+use crate::{PoolMemory, PoolShelf, PutRefusal, RowMemory, RowShelf, Shelf, Size, SplitShelf};
 use stamps::{CardNo, TxNo, Value, VersionNo};
 use std::alloc::{AllocError, Global};
 use std::process::Abort;
 use std::test::Fail;
 
 fn row(heap: Global) -> Result<RowShelf, AllocError> {
-    Ok(RowShelf::new(RowMemory::reserve(heap, 2, 2)?, 2, 3, 2))
+    let size = Size {
+        cards: 2,
+        width: 3,
+        places: 2,
+    };
+    let memory = RowMemory::reserve(heap, size.cards, size.places)?;
+    Ok(RowShelf::new(memory, size))
 }
 
 fn pool(heap: Global) -> Result<PoolShelf, AllocError> {
-    Ok(PoolShelf::new(PoolMemory::reserve(heap, 2, 3)?, 2, 3, 3))
+    let size = Size {
+        cards: 2,
+        width: 3,
+        places: 3,
+    };
+    let memory = PoolMemory::reserve(heap, size.cards, size.places)?;
+    Ok(PoolShelf::new(memory, size))
 }
 
 // Puts the steps of the table, and asks for each version that was put.

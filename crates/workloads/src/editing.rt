@@ -6,7 +6,7 @@ use super::dice::Dice;
 use books::Slip;
 use catalogue::{BooksMemory, Catalogue};
 use shelf::Shelf;
-use shelves::{PoolMemory, PoolShelf, RowMemory, RowShelf, SplitShelf};
+use shelves::{PoolMemory, PoolShelf, RowMemory, RowShelf, Size, SplitShelf};
 use stamps::{CardNo, Value};
 use std::alloc::{AllocError, Global};
 
@@ -178,27 +178,39 @@ fn worked<S: Shelf>(heap: Global, shelf: &mut S, work: &EditingWork) -> Result<u
     Ok(desk.sum)
 }
 
-fn pool(heap: Global, cards: u32, width: u32, places: u32) -> Result<PoolShelf, AllocError> {
-    let memory = PoolMemory::reserve(heap, cards, places)?;
-    Ok(PoolShelf::new(memory, cards, width, places))
+fn pool(heap: Global, size: Size) -> Result<PoolShelf, AllocError> {
+    let memory = PoolMemory::reserve(heap, size.cards, size.places)?;
+    Ok(PoolShelf::new(memory, size))
+}
+
+// A stamp has a count for each card of the work.
+fn whole(work: &EditingWork) -> Size {
+    Size {
+        cards: work.cards,
+        width: work.cards,
+        places: work.places,
+    }
 }
 
 fn on_row(heap: Global, work: &EditingWork) -> Result<u64, AllocError> {
     let memory = RowMemory::reserve(heap, work.cards, work.places)?;
-    let mut shelf = RowShelf::new(memory, work.cards, work.cards, work.places);
+    let mut shelf = RowShelf::new(memory, whole(work));
     worked(heap, &mut shelf, work)
 }
 
 fn on_pool(heap: Global, work: &EditingWork) -> Result<u64, AllocError> {
-    let mut shelf = pool(heap, work.cards, work.cards, work.places)?;
+    let mut shelf = pool(heap, whole(work))?;
     worked(heap, &mut shelf, work)
 }
 
 // A split of two pools, each with half of the cards and half of the places.
 fn on_split(heap: Global, work: &EditingWork) -> Result<u64, AllocError> {
-    let left = pool(heap, work.cards / 2, work.cards, work.places / 2)?;
-    let right = pool(heap, work.cards / 2, work.cards, work.places / 2)?;
-    let mut shelf = SplitShelf::new(left, right);
+    let half = Size {
+        cards: work.cards / 2,
+        width: work.cards,
+        places: work.places / 2,
+    };
+    let mut shelf = SplitShelf::new(pool(heap, half)?, pool(heap, half)?);
     worked(heap, &mut shelf, work)
 }
 

@@ -2,7 +2,7 @@
 ghost use Rattle.std.specs.Prelude.{◌<◌};
 
 use super::dice::{below, rolled};
-use shelves::{PoolMemory, PoolShelf, RowMemory, RowShelf, Shelf, SplitShelf};
+use shelves::{PoolMemory, PoolShelf, RowMemory, RowShelf, Shelf, Size, SplitShelf};
 use stamps::{CardNo, TxNo, Value, VersionNo};
 use std::alloc::{AllocError, Global};
 
@@ -90,35 +90,38 @@ fn worked<S: Shelf>(shelf: &mut S, work: &ShelfWork) -> u64 {
     put_all(shelf, work).wrapping_add(ask_all(shelf, work))
 }
 
+fn whole(work: &ShelfWork) -> Size {
+    Size {
+        cards: work.cards,
+        width: work.width,
+        places: work.places,
+    }
+}
+
+fn pool(heap: Global, size: Size) -> Result<PoolShelf, AllocError> {
+    let memory = PoolMemory::reserve(heap, size.cards, size.places)?;
+    Ok(PoolShelf::new(memory, size))
+}
+
 fn on_row(heap: Global, work: &ShelfWork) -> Result<u64, AllocError> {
     let memory = RowMemory::reserve(heap, work.cards, work.places)?;
-    let mut shelf = RowShelf::new(memory, work.cards, work.width, work.places);
+    let mut shelf = RowShelf::new(memory, whole(work));
     Ok(worked(&mut shelf, work))
 }
 
 fn on_pool(heap: Global, work: &ShelfWork) -> Result<u64, AllocError> {
-    let memory = PoolMemory::reserve(heap, work.cards, work.places)?;
-    let mut shelf = PoolShelf::new(memory, work.cards, work.width, work.places);
+    let mut shelf = pool(heap, whole(work))?;
     Ok(worked(&mut shelf, work))
 }
 
 // A split of two pools, each with half of the cards and half of the places.
 fn on_split(heap: Global, work: &ShelfWork) -> Result<u64, AllocError> {
-    let cards = work.cards / 2;
-    let places = work.places / 2;
-    let left = PoolShelf::new(
-        PoolMemory::reserve(heap, cards, places)?,
-        cards,
-        work.width,
-        places,
-    );
-    let right = PoolShelf::new(
-        PoolMemory::reserve(heap, cards, places)?,
-        cards,
-        work.width,
-        places,
-    );
-    let mut shelf = SplitShelf::new(left, right);
+    let half = Size {
+        cards: work.cards / 2,
+        width: work.width,
+        places: work.places / 2,
+    };
+    let mut shelf = SplitShelf::new(pool(heap, half)?, pool(heap, half)?);
     Ok(worked(&mut shelf, work))
 }
 

@@ -7,7 +7,7 @@ ghost use Rattle.pools.specs.PoolMeaning.{pool_meaning, pool_fits, pool_made};
 use crate::chain::{Chain, Link};
 use crate::pool::{PoolMemory, PoolShelf};
 use drawers::Places;
-use shelf::CheckRefusal;
+use shelf::{CheckRefusal, Size};
 use stamps::CardNo;
 use std::alloc::{AllocError, Global};
 
@@ -40,14 +40,14 @@ impl PoolMemory {
 
 impl PoolShelf {
     // Whether a shelf of this size fits into the memory: 1 to 256 cards, stamps of 1 to 256 counts and 1 to 65,535 places.
-    pub fn check(
-        memory: &PoolMemory,
-        cards: u32,
-        width: u32,
-        places: u32,
-    ) -> Result<(), CheckRefusal>
-        ensures { result ≡ (if pool_fits memory.now cards width places then Ok tt else Err NoFit) }
+    pub fn check(memory: &PoolMemory, size: Size) -> Result<(), CheckRefusal>
+        ensures { result ≡ (if pool_fits memory.now size.cards size.width size.places then Ok tt else Err NoFit) }
     {
+        let Size {
+            cards,
+            width,
+            places,
+        } = size;
         let sized = 1 <= cards
             && cards <= 256
             && 1 <= width
@@ -68,11 +68,11 @@ impl PoolShelf {
     }
 
     // A shelf with each card at version 0 alone and all places free; a shelf of no cards where this does not fit.
-    pub fn new(memory: PoolMemory, cards: u32, width: u32, places: u32) -> PoolShelf
-        ensures { pool_meaning result ≡ pool_made memory cards width places }
+    pub fn new(memory: PoolMemory, size: Size) -> PoolShelf
+        ensures { pool_meaning result ≡ pool_made memory size.cards size.width size.places }
     {
-        match PoolShelf::check(&memory, cards, width, places) {
-            Ok(()) => PoolShelf::empty(memory, cards, width, places),
+        match PoolShelf::check(&memory, size) {
+            Ok(()) => PoolShelf::empty(memory, size.cards, size.width, size.places),
             Err(_) => PoolShelf::empty(memory, 0, 0, 0),
         }
     }

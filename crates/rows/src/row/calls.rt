@@ -6,7 +6,7 @@ ghost use Rattle.rows.specs.RowMeaning.{row_meaning, row_fits, row_made};
 
 use crate::row::{RowMemory, RowShelf};
 use drawers::Places;
-use shelf::CheckRefusal;
+use shelf::{CheckRefusal, Size};
 use std::alloc::{AllocError, Global};
 
 impl RowMemory {
@@ -22,14 +22,14 @@ impl RowMemory {
 
 impl RowShelf {
     // Whether a shelf of this size fits into the memory: 1 to 256 cards, stamps of 1 to 256 counts and drawers of 1 to 4,095 places.
-    pub fn check(
-        memory: &RowMemory,
-        cards: u32,
-        width: u32,
-        places: u32,
-    ) -> Result<(), CheckRefusal>
-        ensures { result ≡ (if row_fits memory.now cards width places then Ok tt else Err NoFit) }
+    pub fn check(memory: &RowMemory, size: Size) -> Result<(), CheckRefusal>
+        ensures { result ≡ (if row_fits memory.now size.cards size.width size.places then Ok tt else Err NoFit) }
     {
+        let Size {
+            cards,
+            width,
+            places,
+        } = size;
         let sized = 1 <= cards
             && cards <= 256
             && 1 <= width
@@ -47,11 +47,11 @@ impl RowShelf {
     }
 
     // A shelf with each card at version 0 alone and all places free; a shelf of no cards where this does not fit.
-    pub fn new(memory: RowMemory, cards: u32, width: u32, places: u32) -> RowShelf
-        ensures { row_meaning result ≡ row_made memory cards width places }
+    pub fn new(memory: RowMemory, size: Size) -> RowShelf
+        ensures { row_meaning result ≡ row_made memory size.cards size.width size.places }
     {
-        match RowShelf::check(&memory, cards, width, places) {
-            Ok(()) => RowShelf::empty(memory, cards, width, places),
+        match RowShelf::check(&memory, size) {
+            Ok(()) => RowShelf::empty(memory, size.cards, size.width, size.places),
             Err(_) => RowShelf::empty(memory, 0, 0, 0),
         }
     }

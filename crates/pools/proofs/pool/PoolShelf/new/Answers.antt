@@ -7,6 +7,6 @@ use Rattle.pools.proofs.pool.PoolShelf.new.Goals as goal
 
 pub returns-in-Err : goal.returns-in-Err
 returns-in-Err c =
-    let fits = pool_fits c.args.memory c.args.cards c.args.width c.args.places in
+    let fits = pool_fits c.args.memory c.args.size.cards c.args.size.width c.args.size.places in
     c.empty-in-Err.ensures.none refl refl
-    ∙ sym (cond-false fits (fresh c.args.cards c.args.width all_one c.args.places) no_cards (refused fits c.check.result _ c.check.ensures c.in-Err.is))
+    ∙ sym (cond-false fits (fresh c.args.size.cards c.args.size.width all_one c.args.size.places) no_cards (refused fits c.check.result _ c.check.ensures c.in-Err.is))

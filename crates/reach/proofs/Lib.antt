@@ -1,2 +1,3 @@
+pub mod PickLaws
 mod LinkLaws
 pub mod SearchLaws

@@ -1,11 +1,11 @@
 -- A search step by step: what one visit finds, what several find together, and what is reached at the end.
-use Rattle.std.proofs.Common.{◌≡◌, ℕ, zero, suc, ◌+◌, ◌<◌, ◌≤◌, cond, eqb, ◌≢◌, ◌⊎◌, List, length, get_or, set, replicate, sym, refl, ap, ◌∙◌, subst, inl, inr, arith, length-set, get_or-set_other, get_or-set_same}
-use Rattle.std.proofs.lemmas.List.{get_or-replicate, get_or_past, length-replicate}
+use Rattle.std.proofs.Common.{◌≡◌, ℕ, zero, suc, ◌<◌, ◌≤◌, cond, eqb, ◌≢◌, ◌⊎◌, List, [], ◌∷◌, ◌++◌, length, get_or, set, replicate, sym, refl, ap, ◌∙◌, subst, inl, inr, arith, length-set, length-append, get_or-set_other, get_or-set_same}
+use Rattle.std.proofs.lemmas.List.{get_or-replicate, get_or_past, get_or_append_left, length-replicate}
+use Rattle.std.proofs.Math.Seq.{get_or-append_seam}
 use Rattle.std.proofs.lemmas.Bool.{cases_lt, cases_eq, cases_Bool}
 use Rattle.reach.specs.Links.{places, from, to}
 use Rattle.reach.specs.Paths.{Edge, Path, Marked, Reached}
 use Rattle.reach.specs.Searches.{unmarked, Room, Closed, Waits, Is, Found, Search}
-use Rattle.reach.specs.declared.queue.Queue.{Queue}
 
 -- marking node n changes no count of the nodes below it
 unmarked_above : (ms : List ℕ) (n k : ℕ) → k ≤ n → unmarked (set ms n 1) k ≡ unmarked ms k
@@ -39,28 +39,31 @@ unmarked_less ms n (suc k) lt in' e = elim (cases_lt n k) [ inl small ↦ below 
         rw s (omega arith)
 
 -- the queue with node n behind the others
-abbrev put : Queue → ℕ → Queue
-put q n = record { count = q.count + 1; nodes = set q.nodes q.count n }
+abbrev put : List ℕ → ℕ → List ℕ
+put q n = q ++ n ∷ []
 
-pub visited : (ms : List ℕ) (q : Queue) (n : ℕ) → Room ms q → n < places → n < length ms → get_or ms n 0 ≡ 0 → q.count < length q.nodes
+pub visited : (ms q : List ℕ) (n : ℕ) → Room ms q → n < places → n < length ms → get_or ms n 0 ≡ 0
     → Found (Is n) ms (set ms n 1) q (put q n)
-visited ms q n room small in' blank long = record {
-  room = omega (arith, unmarked_less ms n places small in' blank, room);
+visited ms q n room small in' blank = record {
+  room = omega (arith, unmarked_less ms n places small in' blank, room, longer);
   long = length-set ms n 1;
   marks = λ b m. elim (cases_eq b n) [ inl e ↦ rw e new | inr ne ↦ omega (arith, get_or-set_other ms n b 1 0 ne) ];
-  longer = omega arith;
-  nodes = λ i lt. let ne : i ≢ q.count = omega arith in get_or-set_other q.nodes q.count i n 0 ne;
-  only = λ b m. elim (cases_eq b n) [ inl e ↦ inr (e, omega arith, (q.count, omega arith, last ∙ sym e)) | inr ne ↦ inl (omega (arith, get_or-set_other ms n b 1 0 ne)) ];
-  fresh = λ i ge lt. let s : i ≡ q.count = omega arith in rw s (rw last new);
+  longer = omega (arith, longer);
+  nodes = λ i lt. get_or_append_left q (n ∷ []) 0 i lt;
+  only = λ b m. elim (cases_eq b n) [ inl e ↦ inr (e, omega arith, (length q, omega (arith, longer), last ∙ sym e)) | inr ne ↦ inl (omega (arith, get_or-set_other ms n b 1 0 ne)) ];
+  fresh = λ i ge lt. let s : i ≡ length q = omega (arith, longer) in rw s (rw last new);
 }
   where
     new : Marked (set ms n 1) n
     new = omega (arith, get_or-set_same ms n 1 0 in')
 
-    last : get_or (set q.nodes q.count n) q.count 0 ≡ n
-    last = get_or-set_same q.nodes q.count n 0 long
+    longer : length (put q n) ≡ suc (length q)
+    longer = omega (arith, length-append q (n ∷ []))
 
-pub found_none : {P : ℕ → Type 0} (ms : List ℕ) (q : Queue) → Room ms q → Found P ms ms q q
+    last : get_or (put q n) (length q) 0 ≡ n
+    last = get_or-append_seam q n [] 0
+
+pub found_none : {P : ℕ → Type 0} (ms q : List ℕ) → Room ms q → Found P ms ms q q
 found_none ms q room = record {
   room = room;
   long = refl;
@@ -71,7 +74,7 @@ found_none ms q room = record {
   fresh = λ i ge lt. absurd (omega arith);
 }
 
-module _ {P Q : ℕ → Type 0} {ms ms' ms'' : List ℕ} {q q' q'' : Queue} (sub : (b : ℕ) → Q b → P b)
+module _ {P Q : ℕ → Type 0} {ms ms' ms'' q q' q'' : List ℕ} (sub : (b : ℕ) → Q b → P b)
     (f : Found P ms ms' q q') (g : Found Q ms' ms'' q' q'') where
   still_waits : (b : ℕ) → Waits q' b → Waits q'' b
   still_waits b (i, lt, e) = (i, omega (arith, g.longer), g.nodes i lt ∙ e)
@@ -92,8 +95,8 @@ module _ {P Q : ℕ → Type 0} {ms ms' ms'' : List ℕ} {q q' q'' : Queue} (sub
     longer = omega (arith, f.longer, g.longer);
     nodes = λ i lt. g.nodes i (omega (arith, f.longer)) ∙ f.nodes i lt;
     only = λ b m. either b (g.only b m);
-    fresh = λ i ge lt. elim (cases_lt i q'.count) [
-      | inl small ↦ rw (g.nodes i small) (g.marks (get_or q'.nodes i 0) (f.fresh i ge small))
+    fresh = λ i ge lt. elim (cases_lt i (length q')) [
+      | inl small ↦ rw (g.nodes i small) (g.marks (get_or q' i 0) (f.fresh i ge small))
       | inr large ↦ g.fresh i large lt
     ];
   }
@@ -115,7 +118,7 @@ from_step : (es : List (ℕ × ℕ)) (n a c b : ℕ) → From es n a c → Edge 
 from_step es n a c b (inl e) d small = Path.one (subst (λ x. Edge es x b) e d) small
 from_step es n a c b (inr p) d small = path_snoc es n b p d small
 
-module _ (es : List (ℕ × ℕ)) (a c : ℕ) {ms ms' : List ℕ} {q q' : Queue} (s : Search es a ms q) (h : From es (length ms) a c)
+module _ (es : List (ℕ × ℕ)) (a c : ℕ) {ms ms' q q' : List ℕ} (s : Search es a ms q) (h : From es (length ms) a c)
     (f : Found (Edge es c) ms ms' q q') where
   sound : (b : ℕ) → Marked ms b ⊎ (Edge es c b × (b < length ms) × Waits q' b) → Path es (length ms) a b
   sound b (inl m) = s.sound b m
@@ -130,8 +133,8 @@ module _ (es : List (ℕ × ℕ)) (a c : ℕ) {ms ms' : List ℕ} {q q' : Queue}
     room = f.room;
     sound = λ b m. subst (λ n. Path es n a b) (sym f.long) (sound b (f.only b m));
     waits = λ b m. waits b (f.only b m);
-    marked = λ i lt. elim (cases_lt i q.count) [
-      | inl small ↦ rw (f.nodes i small) (f.marks (get_or q.nodes i 0) (s.marked i small))
+    marked = λ i lt. elim (cases_lt i (length q)) [
+      | inl small ↦ rw (f.nodes i small) (f.marks (get_or q i 0) (s.marked i small))
       | inr large ↦ f.fresh i large lt
     ];
   }
@@ -141,8 +144,8 @@ module _ (es : List (ℕ × ℕ)) (a c : ℕ) {ms ms' : List ℕ} {q q' : Queue}
   closed_more x cl b e lt = f.marks b (cl b e (omega (arith, f.long)))
 
 -- a search is over when the edges from the start and from each node of the queue lead to marked nodes
-module _ (es : List (ℕ × ℕ)) (a : ℕ) (ms : List ℕ) (q : Queue) (s : Search es a ms q)
-    (closed : (i : ℕ) → i < q.count → Closed es ms (get_or q.nodes i 0)) where
+module _ (es : List (ℕ × ℕ)) (a : ℕ) (ms q : List ℕ) (s : Search es a ms q)
+    (closed : (i : ℕ) → i < length q → Closed es ms (get_or q i 0)) where
   follow : {b : ℕ} (x : ℕ) → Closed es ms x → Path es (length ms) x b → Marked ms b
   follow x cl (Path.one e lt) = cl _ e lt
   follow x cl (Path.more {b = y} e lt p) = let (i, in', eq) = s.waits y (cl y e lt) in follow y (subst (Closed es ms) eq (closed i in')) p
@@ -162,7 +165,7 @@ none_marked n b m = elim (cases_lt b n) [
   | inr ge ↦ omega (arith, get_or_past (replicate {A = ℕ} n 0) b 0 (omega (arith, length-replicate {A = ℕ} n 0)))
 ]
 
-pub search_none : (es : List (ℕ × ℕ)) (a : ℕ) (ms : List ℕ) (q : Queue) → ((b : ℕ) → Marked ms b → ⊥) → q.count ≡ 0 → Search es a ms q
+pub search_none : (es : List (ℕ × ℕ)) (a : ℕ) (ms q : List ℕ) → ((b : ℕ) → Marked ms b → ⊥) → length q ≡ 0 → Search es a ms q
 search_none es a ms q none empty = record {
   room = omega (arith, unmarked_most ms places);
   sound = λ b m. absurd (none b m);

@@ -5,12 +5,12 @@
 --     Path es n a b               one or more edges lead from a to b, by nodes below n alone
 --     Marked ms b                 node b is marked
 --     Reached es a ms             marked are exactly the nodes to which a path from a leads
-use Rattle.std.specs.Prelude.{◌≡◌, ℕ, ◌<◌, Bool, ◌&&◌, List, length, take, nat_lt, slice_index}
-use Rattle.reach.specs.Links.{places, from, to}
+use Rattle.std.specs.Prelude.{◌≡◌, ℕ, ◌<◌, Bool, ◌&&◌, List, length, nat_lt, slice_index}
+use Rattle.reach.specs.Links.{places, from, to, table}
 use Rattle.reach.specs.declared.graph.Graph.{Graph}
 
 abbrev pub edges : Graph → List (ℕ × ℕ)
-edges g = take g.count g.edges
+edges g = table g.edges.items
 
 abbrev pub taken : Graph → ℕ → ℕ → Bool
 taken g a b = nat_lt (length (edges g)) places && nat_lt a places && nat_lt b places

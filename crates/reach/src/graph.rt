@@ -1,25 +1,29 @@
 ghost use Rattle.std.specs.Prelude.{◌≡◌, ◌≤◌, length};
-ghost use Rattle.reach.specs.Links.{NewestLinked, OlderLinked, Within};
+ghost use Rattle.reach.specs.Links.{table, olders, NewestLinked, OlderLinked, Within};
 
 mod calls;
+
+use arrayvec::ArrayVec;
 
 // How many nodes a graph has, and how many edges it takes.
 pub const PLACES: usize = 2048;
 
+// An edge, and the place of the next older edge from the same node.
+#[derive(Clone, Copy, Default)]
+struct LinkedEdge {
+    from: u16,
+    to: u16,
+    older: Option<u16>,
+}
+
 // A graph on the nodes 0 .. PLACES - 1, with its edges in the order in which they were added.
-// The edges from one node are linked, newest first. A link is a bound: the edge that it leads to stands right below it,
-// and where it is 0 there is none.
 #[derive(Drop)]
 pub struct Graph {
-    count: usize,
-    edges: [(u16, u16); PLACES],
-    // By node: the link to its newest edge.
-    newest: [u16; PLACES],
-    // By edge: the link to the next older edge from the same node.
-    older: [u16; PLACES],
-    ghost room: { count ≤ 2048 },
-    ghost long: { length edges ≡ 2048 },
-    ghost within: { Within edges count },
-    ghost starts: { NewestLinked edges count newest },
-    ghost onward: { OlderLinked edges count older },
+    edges: ArrayVec<LinkedEdge, PLACES>,
+    // By node: the place of its newest edge.
+    newest: [Option<u16>; PLACES],
+    ghost room: { length edges.items ≤ 2048 },
+    ghost within: { Within (table edges.items) },
+    ghost starts: { NewestLinked (table edges.items) newest },
+    ghost onward: { OlderLinked (table edges.items) (olders edges.items) },
 }

@@ -4,9 +4,11 @@
 
 pub mod graph;
 mod queue;
+mod walk;
 
 pub use graph::{Graph, PLACES};
 pub use queue::Queue;
+pub use walk::{Places, Walk};
 
 #[cfg(test)]
 mod tests {

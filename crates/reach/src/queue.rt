@@ -1,10 +1,10 @@
 use super::graph::PLACES;
+use arrayvec::ArrayVec;
 
 mod calls;
 
 // The nodes that a search has marked, in the order of marking.
 #[derive(Drop)]
 pub struct Queue {
-    pub(crate) count: usize,
-    pub(crate) nodes: [u16; PLACES],
+    pub(crate) nodes: ArrayVec<u16, PLACES>,
 }

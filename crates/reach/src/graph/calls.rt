@@ -1,21 +1,22 @@
 ghost use Rattle.std.specs.Prelude.{◌≡◌, ◌+◌, ◌<◌, ◌≤◌, [], ◌∷◌, ◌++◌, length, if◌then◌else◌};
-ghost use Rattle.reach.specs.Links.{places, from as leaving, Last};
+ghost use Rattle.reach.specs.Links.{places, from as leaving, leaves, picks, behind, Last};
 ghost use Rattle.reach.specs.Paths.{edges, taken, Edge, Reached};
 ghost use Rattle.reach.specs.Searches.{Room, Found, Closed, Clear, Listed};
 
 use super::super::queue::Queue;
-use super::{Graph, PLACES};
+use super::super::walk::{Places, Walk};
+use super::{Graph, LinkedEdge, PLACES};
+use arrayvec::ArrayVec;
 
 impl Graph {
     // A graph with no edge.
     pub fn new() -> Graph
         ensures { edges result ≡ [] }
     {
+        let edges = ArrayVec::new();
         Graph {
-            count: 0,
-            edges: [(0, 0); PLACES],
-            newest: [0; PLACES],
-            older: [0; PLACES],
+            edges,
+            newest: [None; PLACES],
         }
     }
 
@@ -24,37 +25,48 @@ impl Graph {
         ensures added { edges self.new ≡ (if result then edges self.old ++ (from, to) ∷ [] else edges self.old) }
         ensures taken { result ≡ taken self.old from to }
     {
-        let count = self.count;
-        if count >= PLACES || from >= PLACES || to >= PLACES {
+        let place = self.edges.len();
+        if place >= PLACES || from >= PLACES || to >= PLACES {
             return false;
         }
-        self.edges[count] = (from as u16, to as u16);
-        self.older[count] = self.newest[from];
-        self.newest[from] = (count + 1) as u16;
-        self.count = count + 1;
+        let older = self.newest[from];
+        self.edges.push(LinkedEdge {
+            from: from as u16,
+            to: to as u16,
+            older,
+        });
+        self.newest[from] = Some(place as u16);
         true
     }
 
-    // The link to the newest edge from a node: one more than the edge's place, and 0 where there is none.
+    // The places of the edges that go from a node, newest first.
+    pub fn edges_from(&self, node: usize) -> Places<'_, Graph>
+        ensures { behind (leaves (edges result.walk.now) result.node) result.next ≡ picks (leaves (edges self.now) node) (length (edges self.now)) }
+    {
+        Places::from_node(self, node)
+    }
+
+    // One more than the place of the newest edge from a node; 0 where there is none.
     pub fn newest(&self, node: usize) -> usize
         ensures { Last (edges self.now) node (length (edges self.now)) result }
     {
-        if node >= PLACES {
-            return 0;
+        match self.newest_from(node) {
+            Some(place) => place + 1,
+            None => 0,
         }
-        let link = self.newest[node];
-        link as usize
     }
 
-    // The link to the next older edge from the node that this edge goes from; 0 past the edges too.
+    // One more than the place of the next older edge from the node that this edge goes from; 0 where there is none, and past the edges.
     pub fn older(&self, edge: usize) -> usize
         ensures { edge < length (edges self.now) → Last (edges self.now) (leaving (edges self.now) edge) edge result }
     {
-        if edge >= self.count {
+        if edge >= self.edges.len() {
             return 0;
         }
-        let link = self.older[edge];
-        link as usize
+        match self.next_older(edge) {
+            Some(place) => place + 1,
+            None => 0,
+        }
     }
 
     // Marks exactly the nodes that can be come to from `from` by one or more edges, each to a node that has a mark.
@@ -70,17 +82,17 @@ impl Graph {
     // again without a walk over all marks.
     pub fn search(&self, from: usize, marks: &mut [u32], queue: &mut Queue)
         requires clear { Clear marks.old }
-        requires empty { queue.old.count ≡ 0 }
+        requires empty { queue.old.nodes.items ≡ [] }
         ensures reached { Reached (edges self.now) from marks.new }
-        ensures listed { Listed marks.new queue.new }
-        ensures few { queue.new.count ≤ places }
+        ensures listed { Listed marks.new queue.new.nodes.items }
     {
         if from >= PLACES {
             return;
         }
         self.expand(from, marks, queue);
+        // The queue grows while it is gone through, so its places are counted.
         let mut next = 0;
-        while next < queue.count {
+        while next < queue.nodes.len() {
             let node = queue.nodes[next] as usize;
             self.expand(node, marks, queue);
             next += 1;
@@ -89,16 +101,30 @@ impl Graph {
 
     // Marks the nodes to which an edge leads from `node`.
     fn expand(&self, node: usize, marks: &mut [u32], queue: &mut Queue)
-        requires { (node < places) × (Room marks.old queue.old) }
-        ensures found { Found (Edge (edges self.now) node) marks.old marks.new queue.old queue.new }
+        requires { (node < places) × (Room marks.old queue.old.nodes.items) }
+        ensures found { Found (Edge (edges self.now) node) marks.old marks.new queue.old.nodes.items queue.new.nodes.items }
         ensures closed { Closed (edges self.now) marks.new node }
     {
-        let mut link = self.newest[node] as usize;
-        while link > 0 {
-            let edge = link - 1;
-            let (_, to) = self.edges[edge];
-            queue.visit(to as usize, marks);
-            link = self.older[edge] as usize;
+        for place in self.edges_from(node) {
+            queue.visit(self.edges[place].to as usize, marks);
         }
+    }
+}
+
+// From a node come the edges that go from it.
+impl Walk for Graph {
+    ghost count = { λ graph. length (edges graph) };
+
+    ghost comes = { λ graph. leaves (edges graph) };
+
+    fn newest_from(&self, node: usize) -> Option<usize> {
+        if node >= PLACES {
+            return None;
+        }
+        self.newest[node].map(usize::from)
+    }
+
+    fn next_older(&self, place: usize) -> Option<usize> {
+        self.edges.get(place)?.older.map(usize::from)
     }
 }

@@ -43,7 +43,7 @@ loop-owner-preserved c =
             ap length w.back-is ∙ w.conflicting-conflict.auto.backward ∙ inv.2,
             c.if-entries-owner.auto.marks ∙ inv.3,
             subst (λ (xs : List ℕ). Clear xs) (sym w.marks-is) w.clear.ensures.clear,
-            ap (λ (q : Queue). q.count) w.queue-is ∙ w.clear.ensures.empty,
+            ap (λ (q : Queue). q.nodes.items) w.queue-is ∙ w.clear.ensures.empty,
           )
       | else-entries-owner w ↦ (
         subst (λ (b : Bool). Snapshots es gs m (n + 1) b) (sym w.cons-is) (each_skip es (Snapshot es gs m) n _ w.if-entries-owner.false inv.0),
@@ -51,6 +51,6 @@ loop-owner-preserved c =
         ap length w.back-is ∙ inv.2,
         c.if-entries-owner.auto.marks ∙ inv.3,
         subst (λ (xs : List ℕ). Clear xs) (sym w.marks-is) inv.4,
-        ap (λ (q : Queue). q.count) w.queue-is ∙ inv.5,
+        ap (λ (q : Queue). q.nodes.items) w.queue-is ∙ inv.5,
       )
     ]

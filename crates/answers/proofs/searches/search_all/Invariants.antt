@@ -1,4 +1,4 @@
-use Rattle.std.proofs.Common.{◌≡◌, length}
+use Rattle.std.proofs.Common.{[], ◌≡◌, length}
 use Rattle.reach.specs.Paths.{edges}
 use Rattle.reach.specs.Searches.{Clear}
 use Rattle.answers.specs.Questions.{Snapshots, Conflicts}
@@ -8,4 +8,4 @@ abbrev pub invariant-loop-owner : goal.invariant-loop-owner
 invariant-loop-owner l =
     Snapshots l.entries (edges l.writers) (length l.entries) l.owner l.cons
     × Conflicts l.entries l.dones (edges l.writers) (edges l.readers) (length l.entries) l.owner l.wcf
-    × (length l.back ≡ 2048) × (length l.marks ≡ length l.initial.marks) × Clear l.marks × (l.queue.count ≡ 0)
+    × (length l.back ≡ 2048) × (length l.marks ≡ length l.initial.marks) × Clear l.marks × (l.queue.nodes.items ≡ [])

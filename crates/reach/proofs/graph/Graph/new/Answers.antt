@@ -1,14 +1,14 @@
-use Rattle.std.proofs.Common.{ℕ, arith}
-use Rattle.reach.specs.Links.{link}
-use Rattle.std.proofs.lemmas.List.{get_or-replicate, length-replicate}
+use Rattle.std.proofs.Common.{ℕ, None, Option, arith}
+use Rattle.reach.specs.Links.{picks}
+use Rattle.std.proofs.lemmas.List.{get_or-replicate}
 use Rattle.reach.proofs.graph.Graph.new.Goals as goal
 
 pub invariant_of-result : goal.invariant_of-result
-unfolding link
-invariant_of-result c = record {
-  room = omega arith;
-  long = length-replicate {A = ℕ × ℕ} 2048 (0, 0);
-  within = λ k lt. absurd (omega arith);
-  starts = λ n lt. get_or-replicate 2048 n 0 0 lt;
-  onward = λ k lt. absurd (omega arith);
-}
+unfolding picks
+invariant_of-result c =
+    rw c.new-edges.ensures (record {
+      room = omega arith;
+      within = λ k lt. absurd (omega arith);
+      starts = λ n lt. get_or-replicate {A = Option ℕ} 2048 n None None lt;
+      onward = λ k lt. absurd (omega arith);
+    })

@@ -1,24 +1,22 @@
-use Rattle.std.proofs.Common.{◌≡◌, ◌≤◌, length, get_or, arith}
-use Rattle.std.proofs.lemmas.List.{length-take-le}
+use Rattle.std.proofs.Common.{ℕ, length, sym, ◌∙◌, subst, add-one, arith}
+use Rattle.std.proofs.lemmas.List.{length-map}
+use Rattle.reach.specs.Links.{bound, Last}
 use Rattle.reach.specs.Paths.{edges}
-use Rattle.reach.proofs.LinkLaws.{newest_last, last_taken, edges_within}
+use Rattle.reach.proofs.LinkLaws.{link_last, link_below}
 use Rattle.reach.proofs.graph.Graph.newest.Goals as goal
 
-pub returns-then-node-ge-PLACES : goal.returns-then-node-ge-PLACES
-returns-then-node-ge-PLACES c =
+pub overflow_add-result : goal.overflow_add-result
+overflow_add-result c =
     let g = c.args.self.now in
-    let fits : g.count ≤ length g.edges = omega (arith, g.long, g.room) in
-    record {
-      below = omega arith;
-      here = λ j e. absurd (omega arith);
-      above = λ i ge lt f. omega (arith, (edges_within g.edges g.count fits g.within i lt).0);
-    }
+    let below = link_below (edges g) c.args.node (length (edges g)) c.in-Some.place (sym c.newest_from.ensures ∙ c.in-Some.is) in
+    omega (arith, below, g.room, length-map {B = ℕ × ℕ} g.edges.items (λ e. (e.from, e.to)))
 
-pub returns : goal.returns
-returns c =
-    let g = c.args.self.now in
-    let fits : g.count ≤ length g.edges = omega (arith, g.long, g.room) in
-    let long : length (edges g) ≡ g.count = length-take-le g.count g.edges fits in
-    let last = last_taken g.edges g.count fits c.args.node g.count (get_or g.newest c.args.node 0) (omega arith)
-    (newest_last g.edges g.count c.args.node g.newest g.starts (omega arith)) in
-    rw long last
+pub returns-in-Some : goal.returns-in-Some
+returns-in-Some c =
+    let es = edges c.args.self.now in
+    rw add-one (subst (λ r. Last es c.args.node (length es) (bound r)) (sym c.newest_from.ensures ∙ c.in-Some.is) (link_last es c.args.node (length es)))
+
+pub returns-in-None : goal.returns-in-None
+returns-in-None c =
+    let es = edges c.args.self.now in
+    subst (λ r. Last es c.args.node (length es) (bound r)) (sym c.newest_from.ensures ∙ c.in-None.is) (link_last es c.args.node (length es))

@@ -1,21 +1,27 @@
-use Rattle.std.proofs.Common.{◌≡◌, ℕ, ◌≤◌, length, get_or, sym, ap, subst, arith}
-use Rattle.std.proofs.lemmas.List.{length-take-le, get_or-take}
-use Rattle.reach.specs.Links.{from, Last}
+use Rattle.std.proofs.Common.{ℕ, ◌<◌, length, sym, refl, ◌∙◌, subst, add-one, arith}
+use Rattle.std.proofs.lemmas.List.{length-map}
+use Rattle.reach.specs.Links.{from, bound, Last}
 use Rattle.reach.specs.Paths.{edges}
-use Rattle.reach.proofs.LinkLaws.{older_last, last_taken}
+use Rattle.reach.proofs.LinkLaws.{link_last, link_below, from_leaves}
 use Rattle.reach.proofs.graph.Graph.older.Goals as goal
 
-pub returns-then-edge-self : goal.returns-then-edge-self
-returns-then-edge-self c =
-    let g = c.args.self.now in
-    let fits : g.count ≤ length g.edges = omega (arith, g.long, g.room) in
-    λ lt. absurd (omega (arith, length-take-le g.count g.edges fits))
+pub returns-in-Some : goal.returns-in-Some
+returns-in-Some c = λ lt.
+    let es = edges c.args.self.now in
+    let n = from es c.args.edge in
+    rw add-one (subst (λ r. Last es n c.args.edge (bound r)) (sym (c.next_older.ensures n lt (from_leaves es n c.args.edge refl)) ∙ c.in-Some.is) (link_last es n c.args.edge))
 
-pub returns : goal.returns
-returns c =
+pub returns-in-None : goal.returns-in-None
+returns-in-None c = λ lt.
+    let es = edges c.args.self.now in
+    let n = from es c.args.edge in
+    subst (λ r. Last es n c.args.edge (bound r)) (sym (c.next_older.ensures n lt (from_leaves es n c.args.edge refl)) ∙ c.in-None.is) (link_last es n c.args.edge)
+
+pub overflow_add-result : goal.overflow_add-result
+overflow_add-result c =
     let g = c.args.self.now in
-    let k = c.args.edge in
-    let fits : g.count ≤ length g.edges = omega (arith, g.long, g.room) in
-    let same : from (edges g) k ≡ from g.edges k = ap (λ (p : ℕ × ℕ). p.0) (get_or-take g.count g.edges k (0, 0) (omega arith)) in
-    λ lt. subst (λ (n : ℕ). Last (edges g) n k (get_or g.older k 0)) (sym same)
-    (last_taken g.edges g.count fits (from g.edges k) k (get_or g.older k 0) (omega arith) (older_last g.edges g.count k g.older g.onward (omega arith)))
+    let es = edges g in
+    let lt : c.args.edge < length es = omega (arith, length-map {B = ℕ × ℕ} g.edges.items (λ e. (e.from, e.to))) in
+    let n = from es c.args.edge in
+    let below = link_below es n c.args.edge c.in-Some.place (sym (c.next_older.ensures n lt (from_leaves es n c.args.edge refl)) ∙ c.in-Some.is) in
+    omega (arith, below)

@@ -1,14 +1,9 @@
-use Rattle.std.proofs.Common.{◌≡◌, ℕ, ◌≤◌, length, get_or, sym, refl, subst, inl, inr, arith}
+use Rattle.std.proofs.Common.{◌≡◌, ℕ, ◌≤◌, length, get_or, sym, refl, ap, subst, inl, inr, arith}
 use Rattle.std.proofs.lemmas.Bool.{cases_lt}
 use Rattle.reach.specs.Paths.{edges}
 use Rattle.reach.specs.Searches.{Closed}
-use Rattle.reach.specs.declared.graph.Graph.{Graph}
-use Rattle.reach.proofs.LinkLaws.{edges_within}
 use Rattle.reach.proofs.SearchLaws.{search_none, search_more, closed_more, all_reached, path_inside, path_from_inside}
 use Rattle.reach.proofs.graph.Graph.search.Goals as goal
-
-fits : (g : Graph) → g.count ≤ length g.edges
-fits g = omega (arith, g.long, g.room)
 
 pub returns-then-from-ge-PLACES : goal.returns-then-from-ge-PLACES
 returns-then-from-ge-PLACES c =
@@ -17,21 +12,20 @@ returns-then-from-ge-PLACES c =
     record {
       reached = record {
         sound = λ b m. absurd (c.requires.clear b m);
-        complete = λ b p. absurd (omega (arith, path_from_inside es (length c.args.marks.now) (λ k lt. (edges_within g.edges g.count (fits g) g.within k lt).0) p));
+        complete = λ b p. absurd (omega (arith, path_from_inside es (length c.args.marks.now) (λ k lt. (g.within k lt).0) p));
       };
       listed = λ b m. absurd (c.requires.clear b m);
-      few = omega (arith, c.requires.empty);
     }
 
 pub expand-requires : goal.expand-requires
 expand-requires c = (
   c.if-from-ge-PLACES.false,
-  (search_none (edges c.args.self.now) c.args.from c.args.marks.now c.args.queue.now c.requires.clear c.requires.empty).room,
+  (search_none (edges c.args.self.now) c.args.from c.args.marks.now c.args.queue.now.nodes.items c.requires.clear (ap length c.requires.empty)).room,
 )
 
 pub loop-next-init : goal.loop-next-init
 loop-next-init c =
-    let start = search_none (edges c.args.self.now) c.args.from c.args.marks.now c.args.queue.now c.requires.clear c.requires.empty in (
+    let start = search_none (edges c.args.self.now) c.args.from c.args.marks.now c.args.queue.now.nodes.items c.requires.clear (ap length c.requires.empty) in (
       search_more (edges c.args.self.now) c.args.from c.args.from start (inl refl) c.expand.ensures.found,
       c.expand.ensures.closed,
       λ i lt. absurd (omega arith),
@@ -42,9 +36,9 @@ pub expand-requires-in-loop-next : goal.expand-requires-in-loop-next
 expand-requires-in-loop-next c =
     let g = c.args.self.now in
     let s = c.loop-next.invariant.0 in
-    let node = get_or c.loop-next.queue.nodes c.loop-next.next 0 in (
-      path_inside (edges g) (length c.loop-next.marks) (λ k lt. (edges_within g.edges g.count (fits g) g.within k lt).1)
-          (s.sound node (s.marked c.loop-next.next c.loop-next-test.true)),
+    let node = get_or c.loop-next.queue.nodes.items c.loop-next.next 0 in (
+      rw c.deref.ensures.0 (path_inside (edges g) (length c.loop-next.marks) (λ k lt. (g.within k lt).1)
+          (s.sound node (s.marked c.loop-next.next (omega arith)))),
       s.room,
     )
 
@@ -52,19 +46,20 @@ pub loop-next-preserved : goal.loop-next-preserved
 loop-next-preserved c =
     let es = edges c.args.self.now in
     let inv = c.loop-next.invariant in
-    let q = c.loop-next.queue in
-    let node = get_or q.nodes c.loop-next.next 0 in
-    let path = inv.0.sound node (inv.0.marked c.loop-next.next c.loop-next-test.true) in
-    let found = c.expand-in-loop-next.ensures.found in
-    let same : (i : ℕ) → i ≤ c.loop-next.next → get_or c.expand-in-loop-next.new.queue.nodes i 0 ≡ get_or q.nodes i 0 =
+    let q = c.loop-next.queue.nodes.items in
+    let node = get_or q c.loop-next.next 0 in
+    let path = inv.0.sound node (inv.0.marked c.loop-next.next (omega arith)) in
+    let found = rw c.deref.ensures.0 at c.expand-in-loop-next.ensures.found in
+    let closed = rw c.deref.ensures.0 at c.expand-in-loop-next.ensures.closed in
+    let same : (i : ℕ) → i ≤ c.loop-next.next → get_or c.expand-in-loop-next.new.queue.nodes.items i 0 ≡ get_or q i 0 =
     λ i le. found.nodes i (omega arith) in (
       search_more es c.args.from node inv.0 (inr path) found,
       closed_more es c.args.from node inv.0 (inr path) found c.args.from inv.1,
       λ i lt. subst (Closed es c.expand-in-loop-next.new.marks) (sym (same i (omega arith)))
           (elim (cases_lt i c.loop-next.next) [
-            | inl small ↦ closed_more es c.args.from node inv.0 (inr path) found (get_or q.nodes i 0) (inv.2 i small)
+            | inl small ↦ closed_more es c.args.from node inv.0 (inr path) found (get_or q i 0) (inv.2 i small)
             | inr large ↦ let e : c.loop-next.next ≡ i = omega arith in
-                subst (λ k. Closed es c.expand-in-loop-next.new.marks (get_or q.nodes k 0)) e c.expand-in-loop-next.ensures.closed
+                subst (λ k. Closed es c.expand-in-loop-next.new.marks (get_or q k 0)) e closed
           ]),
       omega (arith, found.longer),
     )
@@ -73,7 +68,6 @@ pub returns : goal.returns
 returns c =
     let inv = c.loop-next.invariant in
     record {
-      reached = all_reached (edges c.args.self.now) c.args.from c.loop-next.marks c.loop-next.queue inv.0 (λ i lt. inv.2 i (omega arith)) inv.1;
+      reached = all_reached (edges c.args.self.now) c.args.from c.loop-next.marks c.loop-next.queue.nodes.items inv.0 (λ i lt. inv.2 i (omega arith)) inv.1;
       listed = inv.0.waits;
-      few = omega (arith, inv.0.room);
     }

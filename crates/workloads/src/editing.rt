@@ -3,10 +3,11 @@ ghost use Rattle.std.specs.Prelude.{◌<◌};
 
 use super::desk::Desk;
 use super::dice::Dice;
+use super::makes::{Work, on_pool, on_row, on_split};
 use books::Slip;
 use catalogue::{BooksMemory, Catalogue};
 use shelf::Shelf;
-use shelves::{PoolMemory, PoolShelf, RowMemory, RowShelf, Size, SplitShelf};
+use shelves::Size;
 use stamps::{CardNo, Value};
 use std::alloc::{AllocError, Global};
 
@@ -23,9 +24,32 @@ pub struct EditingWork {
     pub transactions: u32,
     // How many transactions are open at a time, where the work has many.
     pub open: u32,
-    // 0: each transaction reads four cards. 1: each reads two cards and drafts both. 2: many are open at a time, each reading two of
-    // four hot cards and drafting one of them. Else: one reads a card now and then, while others commit.
+    // The number of a kind, since the program in plain Rust hands it over.
     pub kind: u32,
+}
+
+// What the editors do.
+#[derive(Clone, Copy)]
+enum Kind {
+    // Each transaction reads four cards.
+    Reads,
+    // Each reads two cards and drafts both.
+    Drafts,
+    // Many are open at a time, each reading two of four hot cards and drafting one of them.
+    Hot,
+    // One reads a card now and then, while others commit.
+    LongReader,
+}
+
+impl From<u32> for Kind {
+    fn from(number: u32) -> Kind {
+        match number {
+            0 => Kind::Reads,
+            1 => Kind::Drafts,
+            2 => Kind::Hot,
+            _ => Kind::LongReader,
+        }
+    }
 }
 
 // What is drafted.
@@ -116,102 +140,97 @@ fn hot<S: Shelf>(heap: Global, desk: &mut Desk, shelf: &mut S, work: &EditingWor
     slips.destroy_empty();
 }
 
-// The long reader reads its next card; after the last it commits and begins anew.
-fn read_on<S: Shelf>(
-    desk: &mut Desk,
-    shelf: &mut S,
-    slip: Slip,
-    card: u32,
-    is_last: bool,
-) -> Option<Slip> {
-    desk.read(shelf, &slip, card);
-    if !is_last {
-        return Some(slip);
+// A reader that goes through the cards, one now and then.
+struct LongReader {
+    slip: Option<Slip>,
+    next: u32,
+}
+
+impl LongReader {
+    fn begin(desk: &mut Desk) -> LongReader {
+        LongReader {
+            slip: desk.catalogue.open().ok(),
+            next: 0,
+        }
     }
-    desk.commit(shelf, slip);
-    desk.catalogue.open().ok()
+
+    // Reads the next card; after the last it commits and begins anew.
+    fn read_on<S: Shelf>(self, desk: &mut Desk, shelf: &mut S, cards: u32) -> LongReader
+        requires { 1 < cards }
+    {
+        let LongReader { slip, next } = self;
+        if let Some(slip) = &slip {
+            desk.read(shelf, slip, next);
+        }
+        if next < cards - 1 {
+            let next = next + 1;
+            return LongReader { slip, next };
+        }
+        let Some(slip) = slip else {
+            return LongReader {
+                slip: None,
+                next: 0,
+            };
+        };
+        desk.commit(shelf, slip);
+        LongReader::begin(desk)
+    }
+
+    fn end(self, desk: &mut Desk) {
+        let LongReader { slip, next: _ } = self;
+        if let Some(slip) = slip {
+            let _ = desk.catalogue.abandon(slip);
+        }
+    }
 }
 
 fn long_reader<S: Shelf>(desk: &mut Desk, shelf: &mut S, work: &EditingWork)
     requires { 1 < work.now.cards }
 {
     let mut dice = Dice::new(6);
-    let mut next = 0;
-    let mut reader = desk.catalogue.open().ok();
+    let mut reader = LongReader::begin(desk);
     for i in 0..work.transactions {
         let cards = pair(&mut dice, work.cards);
         desk.transact(shelf, &cards, &cards, words(i, 3));
         if i % 16 == 0 {
-            let is_last = next >= work.cards - 1;
-            reader = match reader {
-                Some(slip) => read_on(desk, shelf, slip, next, is_last),
-                None => None,
-            };
-            next = if is_last { 0 } else { next + 1 };
+            reader = reader.read_on(desk, shelf, work.cards);
         }
     }
     desk.catalogue.close();
-    if let Some(slip) = reader {
-        let _ = desk.catalogue.abandon(slip);
+    reader.end(desk);
+}
+
+impl Work for EditingWork {
+    // A stamp has a count for each card of the work.
+    fn size(&self) -> Size {
+        Size {
+            cards: self.cards,
+            width: self.cards,
+            places: self.places,
+        }
     }
-}
 
-// The whole work on a shelf.
-fn worked<S: Shelf>(heap: Global, shelf: &mut S, work: &EditingWork) -> Result<u64, AllocError> {
-    let lines = u64::from(work.transactions) * 5
-        + u64::from(work.depth.wrapping_mul(work.cards)) * 3
-        + 100;
-    let mut desk = Desk {
-        catalogue: Catalogue::new(BooksMemory::reserve(heap, PLACES, work.cards, lines as usize)?),
-        sum: 0,
-    };
-    if work.cards < 2 || desk.catalogue.set_up(shelf).is_err() {
-        return Ok(0);
+    fn work_on<S: Shelf>(&self, heap: Global, shelf: &mut S) -> Result<u64, AllocError> {
+        let lines = u64::from(self.transactions) * 5
+            + u64::from(self.depth.wrapping_mul(self.cards)) * 3
+            + 100;
+        let memory = BooksMemory::reserve(heap, PLACES, self.cards, lines as usize)?;
+        let mut desk = Desk {
+            catalogue: Catalogue::new(memory),
+            sum: 0,
+        };
+        if self.cards < 2 || desk.catalogue.set_up(shelf).is_err() {
+            return Ok(0);
+        }
+        fill(&mut desk, shelf, self);
+        match Kind::from(self.kind) {
+            Kind::Reads => reads(&mut desk, shelf, self),
+            Kind::Drafts => drafts(&mut desk, shelf, self),
+            Kind::Hot => hot(heap, &mut desk, shelf, self),
+            Kind::LongReader => long_reader(&mut desk, shelf, self),
+        }
+        Ok(desk.sum)
     }
-    fill(&mut desk, shelf, work);
-    match work.kind {
-        0 => reads(&mut desk, shelf, work),
-        1 => drafts(&mut desk, shelf, work),
-        2 => hot(heap, &mut desk, shelf, work),
-        _ => long_reader(&mut desk, shelf, work),
-    }
-    Ok(desk.sum)
-}
-
-fn pool(heap: Global, size: Size) -> Result<PoolShelf, AllocError> {
-    let memory = PoolMemory::reserve(heap, size.cards, size.places)?;
-    Ok(PoolShelf::new(memory, size))
-}
-
-// A stamp has a count for each card of the work.
-fn whole(work: &EditingWork) -> Size {
-    Size {
-        cards: work.cards,
-        width: work.cards,
-        places: work.places,
-    }
-}
-
-fn on_row(heap: Global, work: &EditingWork) -> Result<u64, AllocError> {
-    let memory = RowMemory::reserve(heap, work.cards, work.places)?;
-    let mut shelf = RowShelf::new(memory, whole(work));
-    worked(heap, &mut shelf, work)
-}
-
-fn on_pool(heap: Global, work: &EditingWork) -> Result<u64, AllocError> {
-    let mut shelf = pool(heap, whole(work))?;
-    worked(heap, &mut shelf, work)
-}
-
-// A split of two pools, each with half of the cards and half of the places.
-fn on_split(heap: Global, work: &EditingWork) -> Result<u64, AllocError> {
-    let half = Size {
-        cards: work.cards / 2,
-        width: work.cards,
-        places: work.places / 2,
-    };
-    let mut shelf = SplitShelf::new(pool(heap, half)?, pool(heap, half)?);
-    worked(heap, &mut shelf, work)
 }
 
 // Work on a row, a pool and a split of two pools: its checksum, 0 where memory is wanting.

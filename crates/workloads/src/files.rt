@@ -4,7 +4,7 @@ use history::judge;
 // Marks for the largest file.
 const MARKS: usize = 2048;
 
-// What the judge says of a file: the refusal's number, or 100 and then 1 for WCF, 2 for CONS and 4 for ACA, where they hold.
+// What the judge says of a file, as the number that the program in plain Rust takes: the refusal's number, or 100 and then 1 for WCF, 2 for CONS and 4 for ACA, where they hold.
 #[unsafe(no_mangle)]
 pub extern "C" fn workload_judge(file: &[u8]) -> u32 {
     let mut marks = [0; MARKS];

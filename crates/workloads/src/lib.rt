@@ -6,4 +6,5 @@ mod desk;
 mod dice;
 pub mod editing;
 pub mod files;
+mod makes;
 pub mod store;

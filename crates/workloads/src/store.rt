@@ -1,8 +1,9 @@
 // Work on shelves: versions are put, then questions are asked, as a small generator says.
 ghost use Rattle.std.specs.Prelude.{◌<◌};
 
-use super::dice::{below, rolled};
-use shelves::{PoolMemory, PoolShelf, RowMemory, RowShelf, Shelf, Size, SplitShelf};
+use super::dice::Dice;
+use super::makes::{Work, on_pool, on_row, on_split};
+use shelves::{Shelf, Size};
 use stamps::{CardNo, TxNo, Value, VersionNo};
 use std::alloc::{AllocError, Global};
 
@@ -18,36 +19,23 @@ pub struct ShelfWork {
     pub asks: u32,
 }
 
-// The first counts, as many as the width says.
-fn first(counts: &[u32], width: u32) -> &[u32] {
-    let end = width as usize;
-    if end < counts.len() {
-        &counts[0..end]
-    } else {
-        counts
-    }
-}
-
 // Puts the versions, and answers how many were taken.
 fn put_all<S: Shelf>(shelf: &mut S, work: &ShelfWork) -> u64 {
     if work.cards == 0 {
         return 0;
     }
     let mut counts = [0; 256];
-    let mut state = 1;
+    let mut dice = Dice::new(1);
     let mut taken = 0u64;
     for i in 0..work.puts {
-        state = rolled(state);
-        let card = below(state, work.cards);
+        let card = dice.below(work.cards);
         counts[card as usize % 256] = i % 65_536;
         let value = Value {
             first: u64::from(i),
-            second: state,
+            second: dice.state(),
         };
-        if shelf
-            .put(CardNo(card), value, TxNo(i), first(&counts, work.width))
-            .is_ok()
-        {
+        let counts = counts.get(..work.width as usize).unwrap_or(&counts);
+        if shelf.put(CardNo(card), value, TxNo(i), counts).is_ok() {
             taken = taken.wrapping_add(1);
         }
     }
@@ -75,54 +63,28 @@ fn ask_all<S: Shelf>(shelf: &S, work: &ShelfWork) -> u64 {
     if work.cards == 0 {
         return 0;
     }
-    let mut state = 2;
+    let mut dice = Dice::new(2);
     let mut sum = 0u64;
     for _ in 0..work.asks {
-        state = rolled(state);
-        let answer = ask(shelf, CardNo(below(state, work.cards)), state).unwrap_or(7);
+        let card = CardNo(dice.below(work.cards));
+        let answer = ask(shelf, card, dice.state()).unwrap_or(7);
         sum = sum.wrapping_mul(31).wrapping_add(answer);
     }
     sum
 }
 
-// The whole work on a shelf.
-fn worked<S: Shelf>(shelf: &mut S, work: &ShelfWork) -> u64 {
-    put_all(shelf, work).wrapping_add(ask_all(shelf, work))
-}
-
-fn whole(work: &ShelfWork) -> Size {
-    Size {
-        cards: work.cards,
-        width: work.width,
-        places: work.places,
+impl Work for ShelfWork {
+    fn size(&self) -> Size {
+        Size {
+            cards: self.cards,
+            width: self.width,
+            places: self.places,
+        }
     }
-}
 
-fn pool(heap: Global, size: Size) -> Result<PoolShelf, AllocError> {
-    let memory = PoolMemory::reserve(heap, size.cards, size.places)?;
-    Ok(PoolShelf::new(memory, size))
-}
-
-fn on_row(heap: Global, work: &ShelfWork) -> Result<u64, AllocError> {
-    let memory = RowMemory::reserve(heap, work.cards, work.places)?;
-    let mut shelf = RowShelf::new(memory, whole(work));
-    Ok(worked(&mut shelf, work))
-}
-
-fn on_pool(heap: Global, work: &ShelfWork) -> Result<u64, AllocError> {
-    let mut shelf = pool(heap, whole(work))?;
-    Ok(worked(&mut shelf, work))
-}
-
-// A split of two pools, each with half of the cards and half of the places.
-fn on_split(heap: Global, work: &ShelfWork) -> Result<u64, AllocError> {
-    let half = Size {
-        cards: work.cards / 2,
-        width: work.width,
-        places: work.places / 2,
-    };
-    let mut shelf = SplitShelf::new(pool(heap, half)?, pool(heap, half)?);
-    Ok(worked(&mut shelf, work))
+    fn work_on<S: Shelf>(&self, _heap: Global, shelf: &mut S) -> Result<u64, AllocError> {
+        Ok(put_all(shelf, self).wrapping_add(ask_all(shelf, self)))
+    }
 }
 
 // Work on a row, a pool and a split of two pools: its checksum, 0 where memory is wanting.

@@ -1,85 +1,70 @@
--- Numbers as bytes and back, for any number of bytes. Assumes nothing.
-use Rattle.std.proofs.Common.{◌≡◌, ℕ, zero, suc, ◌+◌, ◌*◌, ◌/◌, ◌%◌, ◌^◌, ◌<◌, ◌≤◌, List, [], ◌∷◌, ◌++◌, length, get_or, sym, refl, ap, ◌∙◌, mod-eq_of_lt, pow-suc, arith, lit<, length-append, take_all, take-add}
-use native.Mathlib.Nat.{div-div-eq-div-mul, pow-succ', pow-zero, mod-one, one-le-pow}
-use lib.Arith.{digits_div, digits_mod, mod-mul}
-use lib.Seq.{get_or_at}
+-- Numbers as bytes and back. Assumes nothing.
+use Rattle.std.proofs.Common.{◌≡◌, ℕ, ◌+◌, ◌^◌, ◌<◌, ◌≤◌, List, ◌++◌, length, get_or, w32, w64, sym, ap, ◌∙◌, ⊎_elim, arith, take_all, take-add}
+use Rattle.std.proofs.lemmas.Bool.{cases_lt}
+use Rattle.std.proofs.lemmas.List.{get_or_past}
+use Rattle.std.specs.Int.{from_be_bytes}
 use Rattle.std.specs.List.{between}
-use Rattle.std.proofs.lemmas.List.Edits.{between_none, between_more}
-use Rattle.std.proofs.lemmas.List.{get_or_append_left}
+use Rattle.std.proofs.lemmas.List.Edits.{get_or-between, length-between}
+use Rattle.std.proofs.lemmas.Nat.{be_bytes_4, be_bytes_8, from_be_bytes-to_be_bytes_4, from_be_bytes-to_be_bytes_8}
 use Rattle.records.specs.declared.line.Line.{Line}
 use Rattle.records.specs.Format.{number_at, bytes_of, line_behind, fields_of}
 
--- the last byte apart
-pub bytes_last : (n v : ℕ) → bytes_of (suc n) v ≡ bytes_of n (v / 256) ++ v % 256 ∷ []
-bytes_last zero v = refl
-bytes_last (suc zero) v = refl
-bytes_last (suc (suc n)) v =
-    let p : v / 256 ^ suc (suc n) ≡ v / 256 / 256 ^ suc n = ap (λ (m : ℕ). v / m) (pow-succ' 256 (suc n)) ∙ sym (div-div-eq-div-mul v 256 (256 ^ suc n)) in
-    let q = bytes_last (suc n) v in cc
+-- v is the number that the n bytes of bs from place `at` write, and is written back as them
+pub record Stands (bs : List ℕ) (at n v : ℕ) : Type 0 where
+  pub value : v ≡ number_at bs at n
+  pub back : bytes_of n v ≡ between at (at + n) bs
 
-pub length_bytes_of : (n v : ℕ) → length (bytes_of n v) ≡ n
-length_bytes_of zero v = refl
-length_bytes_of (suc n) v =
-    ap length (bytes_last n v) ∙ length-append (bytes_of n (v / 256)) (v % 256 ∷ []) ∙ omega (arith, length_bytes_of n (v / 256))
+module _ (bs xs : List ℕ) (at v : ℕ) (small : (i : ℕ) → get_or bs i 0 < 256) where
+  byte : (n : ℕ) → xs ≡ between at (at + n) bs → (i : ℕ) → i < n → get_or xs i 0 ≡ get_or bs (at + i) 0
+  byte n is i lt = ap (λ (ys : List ℕ). get_or ys i 0) is ∙ get_or-between bs at (at + n) i 0 (omega arith)
 
--- the bytes that a number was read from are those that it is written as
-pub bytes_of_number : (bs : List ℕ) (at n : ℕ) → at + n ≤ length bs → ((i : ℕ) → get_or bs i 0 < 256) → bytes_of n (number_at bs at n) ≡ between at (at + n) bs
-bytes_of_number bs at zero fit small = sym (between_none bs at) ∙ ap (λ (e : ℕ). between at e bs) (omega arith)
-bytes_of_number bs at (suc n) fit small =
-    let b = get_or bs (at + n) 0 in
-    let m = number_at bs at n in
-    let low : b < 256 = small (at + n) in
-    let d : (m * 256 + b) / 256 ≡ m = digits_div m low in
-    let r : (m * 256 + b) % 256 ≡ b = digits_mod m low in
-    let ih : bytes_of n m ≡ between at (at + n) bs = bytes_of_number bs at n (omega arith) small in
-    let more : between at (at + n + 1) bs ≡ between at (at + n) bs ++ b ∷ [] = between_more bs at (at + n) 0 (omega arith) (omega arith) in
-    let e : at + suc n ≡ at + n + 1 = omega arith in
-    let l = bytes_last n (m * 256 + b) in cc
+  long : (n : ℕ) → at + n ≤ length bs → xs ≡ between at (at + n) bs → length xs ≡ n
+  long n fit is = ap length is ∙ length-between bs at (at + n) fit ∙ omega arith
 
-number_front : (xs ys : List ℕ) (n : ℕ) → n ≤ length xs → number_at (xs ++ ys) 0 n ≡ number_at xs 0 n
-number_front xs ys zero fit = refl
-number_front xs ys (suc n) fit =
-    let p = number_front xs ys n (omega arith) in
-    let q : get_or (xs ++ ys) (0 + n) 0 ≡ get_or xs (0 + n) 0 = get_or_append_left xs ys 0 (0 + n) (omega arith) in cc
+  low : (n : ℕ) → at + n ≤ length bs → xs ≡ between at (at + n) bs → (i : ℕ) → get_or xs i 0 < 256
+  low n fit is i =
+      ⊎_elim
+      (λ (lt : i < n). omega (arith, byte n is i lt, small (at + i)))
+      (λ (past : n ≤ i). omega (arith, get_or_past xs i 0 (omega (arith, long n fit is))))
+      (cases_lt i n)
 
--- the number that is written is the one that is read, as far as it fits
-pub number_of_bytes : (n v : ℕ) → number_at (bytes_of n v) 0 n ≡ v % 256 ^ n
-number_of_bytes zero v = sym (ap (λ (m : ℕ). v % m) (pow-zero 256) ∙ mod-one v)
-number_of_bytes (suc n) v =
-    let xs = bytes_of n (v / 256) in
-    let last : bytes_of (suc n) v ≡ xs ++ v % 256 ∷ [] = bytes_last n v in
-    let front : number_at (xs ++ v % 256 ∷ []) 0 n ≡ number_at xs 0 n = number_front xs (v % 256 ∷ []) n (omega (arith, length_bytes_of n (v / 256))) in
-    let back : get_or (xs ++ v % 256 ∷ []) (0 + n) 0 ≡ v % 256 = get_or_at xs (v % 256) [] 0 (0 + n) (omega (arith, length_bytes_of n (v / 256))) in
-    let ih = number_of_bytes n (v / 256) in
-    let m : v % (256 ^ n * 256) ≡ v / 256 % 256 ^ n * 256 + v % 256 = mod-mul v (one-le-pow n 256 (lit< tt)) (lit< tt) in
-    let e : 256 ^ suc n ≡ 256 ^ n * 256 = pow-suc 256 n in
-    let read : number_at (xs ++ v % 256 ∷ []) 0 n * 256 + get_or (xs ++ v % 256 ∷ []) (0 + n) 0 ≡ v % 256 ^ suc n = cc in
-    ap (λ (bs : List ℕ). number_at bs 0 n * 256 + get_or bs (0 + n) 0) last ∙ read
+  pub four_stand : at + 4 ≤ length bs → xs ≡ between at (at + 4) bs → v ≡ from_be_bytes w32 xs → Stands bs at 4 v
+  four_stand fit is e = record {
+    value = e ∙ omega (arith, byte 4 is 0 (omega arith), byte 4 is 1 (omega arith), byte 4 is 2 (omega arith), byte 4 is 3 (omega arith));
+    back = be_bytes_4 xs v (long 4 fit is) (low 4 fit is) e ∙ is;
+  }
+
+  pub eight_stand : at + 8 ≤ length bs → xs ≡ between at (at + 8) bs → v ≡ from_be_bytes w64 xs → Stands bs at 8 v
+  eight_stand fit is e = record {
+    value = e
+        ∙ omega (arith, byte 8 is 0 (omega arith), byte 8 is 1 (omega arith), byte 8 is 2 (omega arith), byte 8 is 3 (omega arith), byte 8 is 4 (omega arith), byte 8 is 5 (omega arith), byte 8 is 6 (omega arith), byte 8 is 7 (omega arith));
+    back = be_bytes_8 xs v (long 8 fit is) (low 8 fit is) e ∙ is;
+  }
+
+-- what fits is read back
+four_back : (v : ℕ) → v < 2 ^ 32 → number_at (bytes_of 4 v) 0 4 ≡ v
+four_back v fits = omega arith ∙ from_be_bytes-to_be_bytes_4 v fits
+
+eight_back : (v : ℕ) → v < 2 ^ 64 → number_at (bytes_of 8 v) 0 8 ≡ v
+eight_back v fits = omega arith ∙ from_be_bytes-to_be_bytes_8 v fits
 
 -- the fields' bytes one behind the other are all the bytes behind the letters
-pub fields_back : (rest : List ℕ) (t x w f s : ℕ) → length rest ≡ 28
-    → bytes_of 4 t ≡ between 0 4 rest → bytes_of 4 x ≡ between 4 8 rest → bytes_of 4 w ≡ between 8 12 rest
-    → bytes_of 8 f ≡ between 12 20 rest → bytes_of 8 s ≡ between 20 28 rest
-    → bytes_of 4 t ++ bytes_of 4 x ++ bytes_of 4 w ++ bytes_of 8 f ++ bytes_of 8 s ≡ rest
-fields_back rest t x w f s long et ex ew ef es =
-    (λ i. et i ++ ex i ++ ew i ++ ef i ++ es i)
+pub fields_back : (rest : List ℕ) {t x w f s : ℕ} → length rest ≡ 28 → Stands rest 0 4 t → Stands rest 4 4 x → Stands rest 8 4 w → Stands rest 12 8 f
+    → Stands rest 20 8 s → bytes_of 4 t ++ bytes_of 4 x ++ bytes_of 4 w ++ bytes_of 8 f ++ bytes_of 8 s ≡ rest
+fields_back rest size t x w f s =
+    (λ i. t.back i ++ x.back i ++ w.back i ++ f.back i ++ s.back i)
     ∙ ap (λ (l : List ℕ). l ++ between 8 12 rest ++ between 12 20 rest ++ between 20 28 rest) (sym (take-add 4 4 rest))
     ∙ ap (λ (l : List ℕ). l ++ between 12 20 rest ++ between 20 28 rest) (sym (take-add 8 4 rest))
     ∙ ap (λ (l : List ℕ). l ++ between 20 28 rest) (sym (take-add 12 8 rest))
     ∙ sym (take-add 20 8 rest) ∙ take_all 28 rest (omega arith)
 
--- what fits is read back
-pub number_back : (n v : ℕ) → v < 256 ^ n → number_at (bytes_of n v) 0 n ≡ v
-number_back n v small = number_of_bytes n v ∙ mod-eq_of_lt small
-
 -- the fields that the bytes of a line's fields write are the line's own
-pub line_back : (l : Line) → number_at (bytes_of 4 l.transaction.0) 0 4 ≡ l.transaction.0 → number_at (bytes_of 4 l.card.0) 0 4 ≡ l.card.0
-    → number_at (bytes_of 4 l.writer.0) 0 4 ≡ l.writer.0 → number_at (bytes_of 8 l.value.first) 0 8 ≡ l.value.first
-    → number_at (bytes_of 8 l.value.second) 0 8 ≡ l.value.second → line_behind l.kind (fields_of l) ≡ l
+pub line_back : (l : Line) → l.transaction.0 < 2 ^ 32 → l.card.0 < 2 ^ 32 → l.writer.0 < 2 ^ 32 → l.value.first < 2 ^ 64
+    → l.value.second < 2 ^ 64 → line_behind l.kind (fields_of l) ≡ l
 line_back l t x w f s = λ i. record {
   kind = l.kind;
-  transaction = record { 0 = t i };
-  card = record { 0 = x i };
-  writer = record { 0 = w i };
-  value = record { first = f i; second = s i };
+  transaction = record { 0 = four_back l.transaction.0 t i };
+  card = record { 0 = four_back l.card.0 x i };
+  writer = record { 0 = four_back l.writer.0 w i };
+  value = record { first = eight_back l.value.first f i; second = eight_back l.value.second s i };
 }

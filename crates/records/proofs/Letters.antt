@@ -1,5 +1,5 @@
 -- What follows of a record's bytes once its kind is told. Assumes nothing.
-use Rattle.std.proofs.Common.{◌≡◌, ℕ, ◌≤◌, cond, eqb, List, [], ◌∷◌, ◌++◌, length, get_or, replicate, IfOk, Ok, Err, Result, sym, refl, ap, ◌∙◌, arith}
+use Rattle.std.proofs.Common.{◌≡◌, ℕ, ◌≤◌, cond, eqb, List, [], ◌∷◌, ◌++◌, length, get_or, replicate, IfOk, Ok, Err, Some, None, Option, Result, sym, refl, ap, ◌∙◌, subst, arith}
 use borrow.Rule.Slice.PartMut.{put_mid}
 use Rattle.std.specs.List.{between}
 use Rattle.std.proofs.lemmas.Slice.{between_to_end}
@@ -29,13 +29,32 @@ decoded_behind Writ rest e = ap (λ (n : ℕ). cond (eqb n 32) (tested_behind Wr
 decoded_behind Done rest e = ap (λ (n : ℕ). cond (eqb n 32) (tested_behind Done rest) (Err faults.Length)) e
 decoded_behind Gone rest e = ap (λ (n : ℕ). cond (eqb n 32) (tested_behind Gone rest) (Err faults.Length)) e
 
-pub decoded_by : (k : Kind) (bs rest : List ℕ) → length bs ≡ 32 → bs ≡ letters k ++ rest → tested_behind k rest ≡ decoded bs
-decoded_by k bs rest long e = sym (ap decoded e ∙ decoded_behind k rest (sym (ap length e) ∙ long))
+-- r is what bs reads as, and a line is written back as bs
+pub record ReadAs (bs : List ℕ) (r : Result Line RecordFault) : Type 0 where
+  pub value : r ≡ decoded bs
+  pub back : IfOk r (λ l. encoded l ≡ bs)
 
-pub encoded_by : (k : Kind) (bs rest : List ℕ) (r : Result Line RecordFault) → bs ≡ letters k ++ rest
-    → IfOk r (λ l. (l.kind ≡ k) × (fields_of l ≡ rest)) → IfOk r (λ l. encoded l ≡ bs)
-encoded_by k bs rest (Ok l) e (ek, ef) = (λ i. letters (ek i) ++ ef i) ∙ sym e
-encoded_by k bs rest (Err f) e back = tt
+-- the line whose fields stand behind the letters of k, tested, is what the bytes read as
+pub read_behind : (k : Kind) (bs rest : List ℕ) (l : Line) (r : Result Line RecordFault) → length bs ≡ 32 → bs ≡ letters k ++ rest
+    → l ≡ line_behind k rest → fields_of l ≡ rest → r ≡ tested l (fault_of l) → ReadAs bs r
+read_behind k bs rest l r long e is fields tests = record {
+  value = tests ∙ ap (λ (m : Line). tested m (fault_of m)) is ∙ sym (ap decoded e ∙ decoded_behind k rest (sym (ap length e) ∙ long));
+  back = subst (λ (a : Result Line RecordFault). IfOk a (λ m. encoded m ≡ bs)) (sym tests) (go (fault_of l));
+}
+  where
+    go : (f : Option RecordFault) → IfOk (tested l f) (λ m. encoded m ≡ bs)
+    go None = (λ i. letters (is i).kind ++ fields i) ∙ sym e
+    go (Some f) = tt
+
+-- what a line without a fault is written as reads as the line
+pub read_written : (bs : List ℕ) (l m : Line) → length bs ≡ 32 → bs ≡ encoded l → line_behind l.kind (fields_of l) ≡ l → Ok m ≡ tested l (fault_of l)
+    → decoded bs ≡ Ok l
+read_written bs l m long e is tests =
+    ap decoded e ∙ decoded_behind l.kind (fields_of l) (sym (ap length e) ∙ long) ∙ ap (λ (x : Line). tested x (fault_of x)) is ∙ go (fault_of l) tests
+  where
+    go : (f : Option RecordFault) → Ok m ≡ tested l f → tested l f ≡ Ok l
+    go None q = refl
+    go (Some f) q = cc
 
 -- six lists, four of four elements and two of eight, written one behind the other over 32 zeros
 abbrev written_over : (k t x w f s : List ℕ) → List ℕ

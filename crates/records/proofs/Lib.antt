@@ -1,3 +1,4 @@
 pub mod Bytes
 pub mod Letters
 pub mod Fields
+pub mod Parts

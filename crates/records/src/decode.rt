@@ -1,6 +1,6 @@
 ghost use Rattle.std.specs.Prelude.{◌≡◌, ◌+◌, ◌≤◌, length, IfOk};
 ghost use Rattle.std.specs.List.{between};
-ghost use Rattle.records.specs.Format.{number_at, bytes_of, line_behind, fields_of, fault_of, tested, decoded, placed_at, encoded};
+ghost use Rattle.records.specs.Format.{line_behind, fields_of, decoded, placed_at, encoded};
 
 use super::RECORD_SIZE;
 use super::fault::{PlacedFault, RecordFault};
@@ -8,31 +8,12 @@ use super::kind::Kind;
 use super::line::Line;
 use stamps::{CardNo, TxNo, Value};
 
-// The number that the four bytes from `at` on write, highest byte first.
-pub(crate) fn number_of_four(bytes: &[u8], at: usize) -> u32
-    requires { at + 4 ≤ length bytes.now }
-    ensures value { result ≡ number_at bytes.now at 4 }
-    ensures back { bytes_of 4 result ≡ between at (at + 4) bytes.now }
+// The bytes of a field, which begins at `at`.
+pub(crate) fn field<const N: usize>(bytes: &[u8], at: usize) -> [u8; N]
+    requires { at + N ≤ length bytes.now }
+    ensures { result ≡ between at (at + N) bytes.now }
 {
-    u32::from_be_bytes([bytes[at], bytes[at + 1], bytes[at + 2], bytes[at + 3]])
-}
-
-// The number that the eight bytes from `at` on write, highest byte first.
-fn number_of_eight(bytes: &[u8], at: usize) -> u64
-    requires { at + 8 ≤ length bytes.now }
-    ensures value { result ≡ number_at bytes.now at 8 }
-    ensures back { bytes_of 8 result ≡ between at (at + 8) bytes.now }
-{
-    u64::from_be_bytes([
-        bytes[at],
-        bytes[at + 1],
-        bytes[at + 2],
-        bytes[at + 3],
-        bytes[at + 4],
-        bytes[at + 5],
-        bytes[at + 6],
-        bytes[at + 7],
-    ])
+    *bytes[at..].first_chunk().unwrap()
 }
 
 impl Line {
@@ -46,10 +27,10 @@ impl Line {
             return Err(RecordFault::Length);
         }
         match bytes {
-            [b'R', b'E', b'A', b'D', rest @ ..] => Line::of_fields(Kind::Read, rest),
-            [b'W', b'R', b'I', b'T', rest @ ..] => Line::of_fields(Kind::Writ, rest),
-            [b'D', b'O', b'N', b'E', rest @ ..] => Line::of_fields(Kind::Done, rest),
-            [b'G', b'O', b'N', b'E', rest @ ..] => Line::of_fields(Kind::Gone, rest),
+            [b'R', b'E', b'A', b'D', rest @ ..] => Line::of_fields(Kind::Read, rest).checked(),
+            [b'W', b'R', b'I', b'T', rest @ ..] => Line::of_fields(Kind::Writ, rest).checked(),
+            [b'D', b'O', b'N', b'E', rest @ ..] => Line::of_fields(Kind::Done, rest).checked(),
+            [b'G', b'O', b'N', b'E', rest @ ..] => Line::of_fields(Kind::Gone, rest).checked(),
             _ => Err(RecordFault::Kind),
         }
     }
@@ -58,31 +39,24 @@ impl Line {
     pub fn decode_at(bytes: &[u8], place: usize) -> Result<Line, PlacedFault>
         ensures { result ≡ placed_at place (decoded bytes.now) }
     {
-        match Line::decode(bytes) {
-            Ok(line) => Ok(line),
-            Err(fault) => Err(PlacedFault { fault, place }),
-        }
+        Line::decode(bytes).map_err(|fault| PlacedFault { fault, place })
     }
 
-    // The line of this kind whose fields stand in the 28 bytes behind the kind's letters, or its first bad field.
-    fn of_fields(kind: Kind, rest: &[u8]) -> Result<Line, RecordFault>
+    // The line of this kind whose fields, good or bad, stand in the 28 bytes behind the kind's letters.
+    fn of_fields(kind: Kind, rest: &[u8]) -> Line
         requires { length rest.now ≡ 28 }
-        ensures value { result ≡ tested (line_behind kind rest.now) (fault_of (line_behind kind rest.now)) }
-        ensures back { IfOk result (λ l. (l.kind ≡ kind) × (fields_of l ≡ rest.now)) }
+        ensures value { result ≡ line_behind kind rest.now }
+        ensures back { fields_of result ≡ rest.now }
     {
-        let line = Line {
+        Line {
             kind,
-            transaction: TxNo(number_of_four(rest, 0)),
-            card: CardNo(number_of_four(rest, 4)),
-            writer: TxNo(number_of_four(rest, 8)),
+            transaction: TxNo(u32::from_be_bytes(field(rest, 0))),
+            card: CardNo(u32::from_be_bytes(field(rest, 4))),
+            writer: TxNo(u32::from_be_bytes(field(rest, 8))),
             value: Value {
-                first: number_of_eight(rest, 12),
-                second: number_of_eight(rest, 20),
+                first: u64::from_be_bytes(field(rest, 12)),
+                second: u64::from_be_bytes(field(rest, 20)),
             },
-        };
-        match line.fault() {
-            None => Ok(line),
-            Some(fault) => Err(fault),
         }
     }
 }

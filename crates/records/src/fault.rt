@@ -19,7 +19,7 @@ pub enum RecordFault {
 }
 
 impl RecordFault {
-    // The number of the refusal that the fault is told as.
+    // The number of the refusal that the fault is told as. The five bad fields share one.
     pub fn number(self) -> u32
         ensures { result ≡ fault_number self }
     {

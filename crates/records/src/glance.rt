@@ -1,11 +1,22 @@
-ghost use Rattle.std.specs.Prelude.{◌≡◌, true, length, if◌then◌else◌, Some, None, Ok, nat_eq};
+ghost use Rattle.std.specs.Prelude.{◌≡◌, ◌+◌, ◌≤◌, true, length, if◌then◌else◌, Some, None, Ok, nat_eq};
 ghost use Rattle.records.specs.declared.line.Line.{Line as OneLine};
-ghost use Rattle.records.specs.Format.{record_size, transaction_in, card_in, good_card, decoded};
+ghost use Rattle.records.specs.Format.{record_size, number_at, transaction_in, card_in, good_card, decoded};
 
 use super::RECORD_SIZE;
-use super::decode::number_of_four;
+use super::decode::field;
 use super::line::Line;
 use stamps::{CardNo, TxNo};
+
+// The number in the four bytes from `at` on of a record; none at another length than a record's.
+fn number_in(bytes: &[u8], at: usize) -> Option<u32>
+    requires { at + 4 ≤ record_size }
+    ensures { result ≡ (if nat_eq (length bytes.now) record_size then Some (number_at bytes.now at 4) else None) }
+{
+    if bytes.len() != RECORD_SIZE {
+        return None;
+    }
+    Some(u32::from_be_bytes(field(bytes, at)))
+}
 
 impl Line {
     // The transaction that stands in a record's bytes, whatever its other fields are; none at another length than a record's.
@@ -14,10 +25,7 @@ impl Line {
         ensures value { result ≡ (if nat_eq (length bytes.now) record_size then Some (transaction_in bytes.now) else None) }
         ensures same { (l : OneLine) → decoded bytes.now ≡ Ok l → result ≡ Some l.transaction }
     {
-        if bytes.len() != RECORD_SIZE {
-            return None;
-        }
-        Some(TxNo(number_of_four(bytes, 4)))
+        number_in(bytes, 4).map(TxNo)
     }
 
     // The same of the card, which is 0 at an end.
@@ -26,9 +34,6 @@ impl Line {
         ensures same { (l : OneLine) → decoded bytes.now ≡ Ok l → result ≡ Some l.card }
         ensures fit { (l : OneLine) → decoded bytes.now ≡ Ok l → good_card l.kind l.card.0 ≡ true }
     {
-        if bytes.len() != RECORD_SIZE {
-            return None;
-        }
-        Some(CardNo(number_of_four(bytes, 8)))
+        number_in(bytes, 8).map(CardNo)
     }
 }

@@ -1,5 +1,5 @@
 ghost use Rattle.std.specs.Prelude.{◌≡◌};
-ghost use Rattle.records.specs.Format.{good_transaction, good_card, good_writer, good_words, fault_of};
+ghost use Rattle.records.specs.Format.{good_transaction, good_card, good_writer, good_words, fault_of, tested};
 
 use super::fault::RecordFault;
 use super::kind::Kind;
@@ -38,10 +38,17 @@ impl Line {
         }
     }
 
+    // The line, where no field is bad, or its first bad field.
+    pub(crate) fn checked(self) -> Result<Line, RecordFault>
+        ensures { result ≡ tested self (fault_of self) }
+    {
+        self.fault().map_or(Ok(self), Err)
+    }
+
     fn has_good_transaction(&self) -> bool
         ensures { result ≡ good_transaction self.now.transaction.0 }
     {
-        1 <= self.transaction.0 && self.transaction.0 <= LAST_TRANSACTION
+        (1..=LAST_TRANSACTION).contains(&self.transaction.0)
     }
 
     fn has_good_card(&self) -> bool

@@ -1,5 +1,6 @@
 ghost use Rattle.std.specs.Prelude.{◌≡◌, MatchOption};
-ghost use Rattle.records.specs.Parts.{Handed, Ended};
+ghost use Rattle.std.specs.Iterator.{YieldsFirstRef, item_count};
+ghost use Rattle.records.specs.Parts.{parts_of, Handed, Ended};
 
 use super::RECORD_SIZE;
 
@@ -26,9 +27,18 @@ impl<'a> RecordReader<'a> {
         let RecordReader { place, .. } = *self;
         place
     }
+}
+
+impl<'a> Iterator for RecordReader<'a> {
+    type Item = &'a [u8];
+
+    // The records come in their order, one by one, and none behind the last.
+    ghost next_gives = { YieldsFirstRef parts_of };
+
+    ghost remaining = { item_count parts_of };
 
     // The next record's bytes; nothing where fewer bytes than a record's are left.
-    pub fn next(&mut self) -> Option<&'a [u8]>
+    fn next(&mut self) -> Option<&'a [u8]>
         ensures cases { MatchOption result (Ended self.old.bytes.now self.old.place self.new.place)
             (λ p. Handed self.old.bytes.now self.old.place p.now self.new.place) }
         ensures same { self.new.bytes.now ≡ self.old.bytes.now }

@@ -3,6 +3,7 @@ ghost use Rattle.records.specs.Words.{line_text};
 
 use super::kind::Kind;
 use super::line::Line;
+use stamps::Value;
 use std::fmt;
 
 // A line as a reader wants it: the kind, and the numbers that the kind has, in decimal.
@@ -10,12 +11,14 @@ impl fmt::Display for Line {
     ghost output = { λ l. Some (line_text l) };
 
     fn fmt<W: fmt::Write>(&self, f: &mut fmt::Formatter<W>) -> fmt::Result {
-        let transaction = self.transaction;
-        let card = self.card;
-        let writer = self.writer;
-        let first = self.value.first;
-        let second = self.value.second;
-        match self.kind {
+        let Line {
+            kind,
+            transaction,
+            card,
+            writer,
+            value: Value { first, second },
+        } = *self;
+        match kind {
             Kind::Read => write!(f, "READ {transaction} card {card} writer {writer}"),
             Kind::Writ => write!(f, "WRIT {transaction} card {card} words {first} {second}"),
             Kind::Done => write!(f, "DONE {transaction}"),

@@ -1,35 +1,48 @@
--- The records of a file as they are handed out. Assumes nothing.
-use Rattle.std.proofs.Common.{◌≡◌, ℕ, suc, ◌+◌, ◌-◌, ◌<◌, ◌≤◌, List, [], ◌∷◌, length, map, Option, Some, None, MatchOption, sym, ap, ◌∙◌, arith}
+-- The records of a file, as a reader hands them out one by one. Assumes nothing.
+use Rattle.std.proofs.Common.{◌≡◌, ℕ, suc, ◌+◌, ◌-◌, ◌<◌, ◌≤◌, List, ◌∷◌, length, map, Option, Some, None, sym, ap, ◌∙◌, subst, arith}
 use denote.Ref.{Bor}
-use Rattle.std.specs.Iterator.{MakesProgress, YieldsFirstRef, item_count}
+use Rattle.std.specs.Iterator.{Yields}
 use Rattle.std.specs.List.{range_with_len}
+use Rattle.std.proofs.lemmas.Iterator.{YieldsList}
+use Rattle.std.proofs.lemmas.Iterator.Consumers.{YieldsList-from_shown, YieldsList-turn, YieldsList-end}
+use Rattle.std.proofs.lemmas.List.FromFn.{length-map-range_with_len, get_or-map-range_with_len}
 use Rattle.records.specs.declared.reader.RecordReader.{RecordReader}
-use Rattle.records.specs.Parts.{records_in, part, parts_left, parts_of, Handed, Ended}
+use Rattle.records.specs.Parts.{records_in, part, parts_left, parts_of, HandsOut}
 
--- the next record is the first of those that are left
-pub parts_onward : (bs : List ℕ) (i : ℕ) → i < records_in bs → parts_left bs i ≡ part bs i ∷ parts_left bs (suc i)
-parts_onward bs i within =
+-- what is handed out is the first of the records that are left
+onward : (s : RecordReader) (p : Bor (List ℕ)) (t : RecordReader) → HandsOut s (Some p) t → parts_of s ≡ p.now ∷ parts_of t
+onward s p t h =
+    let bs = s.bytes.now in
+    let i = s.place in
     let n = records_in bs - suc i in
+    let within : i < records_in bs = h.cases.whole in
     let size : records_in bs - i ≡ suc n = omega arith in
     let next : i + 1 ≡ suc i = omega arith in
     ap (λ (k : ℕ). map (part bs) (range_with_len i k)) size ∙ ap (λ (j : ℕ). part bs i ∷ map (part bs) (range_with_len j n)) next
+    ∙ sym (λ j. h.cases.is j ∷ parts_left (h.same j) (h.cases.onward j))
 
--- behind the last record none is left
-pub parts_ended : (bs : List ℕ) (i : ℕ) → records_in bs ≤ i → parts_left bs i ≡ []
-parts_ended bs i past =
-    let size : records_in bs - i ≡ 0 = omega arith in ap (λ (k : ℕ). map (part bs) (range_with_len i k)) size
+ended : (s t : RecordReader) → HandsOut s None t → length (parts_of s) ≡ 0
+ended s t h =
+    let past : records_in s.bytes.now ≤ s.place = h.cases.past in
+    length-map-range_with_len (part s.bytes.now) s.place (records_in s.bytes.now - s.place) ∙ omega arith
 
--- what a reader hands out is the first of the parts that are left, and the others are left then
-pub handed_first : (s t : RecordReader) (r : Option (Bor (List ℕ)))
-    → MatchOption r (Ended s.bytes.now s.place t.place) (λ p. Handed s.bytes.now s.place p.now t.place) → t.bytes.now ≡ s.bytes.now → YieldsFirstRef parts_of s r t
-handed_first s t None e same =
-    let none = parts_ended s.bytes.now s.place e.past in
-    (none, (λ i. parts_left (same i) (e.stays i)) ∙ none)
-handed_first s t (Some p) h same =
-    parts_onward s.bytes.now s.place h.whole ∙ sym (λ i. h.is i ∷ parts_left (same i) (h.onward i))
+module _ (bs : List ℕ) (s : RecordReader) (file : s.bytes.now ≡ bs) (start : s.place ≡ 0) where
+  handed_out : YieldsList HandsOut (λ p. p.now) s (parts_left bs 0)
+  handed_out = subst (λ (ps : List (List ℕ)). YieldsList HandsOut (λ p. p.now) s ps) (λ i. parts_left (file i) (start i))
+      (YieldsList-from_shown HandsOut (λ p. p.now) parts_of ended onward s)
 
--- so it comes nearer to its end with each part
-pub nearer_end : (can : RecordReader → Type 0) → ((s : RecordReader) → can s) → (s t : RecordReader) (r : Option (Bor (List ℕ)))
-    → YieldsFirstRef parts_of s r t → MakesProgress can (item_count parts_of) s r t
-nearer_end can may s t None e = record { on = λ _. tt; keeps = tt; rests = λ _. tt }
-nearer_end can may s t (Some p) e = record { on = λ _. (may t, tt, omega (arith, ap length e)); keeps = may t; rests = λ _. tt }
+  many : length (parts_left bs 0) ≡ records_in bs
+  many = length-map-range_with_len (part bs) 0 (records_in bs - 0) ∙ omega arith
+
+  -- in a loop over the reader: behind the records ps comes the one at their number
+  pub handed_next : (ps : List (Bor (List ℕ))) (t : RecordReader) → Yields HandsOut s ps t → (r : Option (Bor (List ℕ))) (u : RecordReader)
+      → (p : Bor (List ℕ)) → r ≡ Some p → HandsOut t r u → (length ps < records_in bs) × (p.now ≡ part bs (length ps))
+  handed_next ps t y r u p is h =
+      let turn = YieldsList-turn handed_out ps t y r u p is h in
+      let within : length ps < records_in bs = omega (arith, turn.0, many) in
+      (within, turn.1 ∙ get_or-map-range_with_len (part bs) 0 (records_in bs - 0) (length ps) (length ps) p.now (omega arith) (omega arith))
+
+  -- and at its end all have come
+  pub handed_all : (ps : List (Bor (List ℕ))) (t : RecordReader) → Yields HandsOut s ps t → (r : Option (Bor (List ℕ))) (u : RecordReader)
+      → r ≡ None → HandsOut t r u → length ps ≡ records_in bs
+  handed_all ps t y r u is h = (YieldsList-end handed_out ps t y r u is h).1 ∙ many

@@ -5,7 +5,9 @@
 --     parts_of r                  those that a reader is still to hand out
 --     Handed bs i p j             record i of the bytes is whole, p is it, and the place then is j
 --     Ended bs i j                no whole record stands at place i, and the place then is j
-use Rattle.std.specs.Prelude.{◌≡◌, ℕ, suc, ◌+◌, ◌*◌, ◌/◌, ◌-◌, ◌<◌, ◌≤◌, List, length, map}
+--     HandsOut s r t              the reader s answers r and is t then: it handed out the next record, or had ended
+use Rattle.std.specs.Prelude.{◌≡◌, ℕ, suc, ◌+◌, ◌*◌, ◌/◌, ◌-◌, ◌<◌, ◌≤◌, List, length, map, Option, MatchOption}
+use denote.Ref.{Bor}
 use Rattle.std.specs.List.{between, range_with_len}
 use Rattle.records.specs.declared.reader.RecordReader.{RecordReader}
 use Rattle.records.specs.Format.{record_size}
@@ -31,3 +33,7 @@ pub record Handed (bs : List ℕ) (i : ℕ) (p : List ℕ) (j : ℕ) : Type 0 wh
 pub record Ended (bs : List ℕ) (i j : ℕ) : Type 0 where
   pub past : records_in bs ≤ i
   pub stays : j ≡ i
+
+pub record HandsOut (s : RecordReader) (r : Option (Bor (List ℕ))) (t : RecordReader) : Type 0 where
+  pub cases : MatchOption r (Ended s.bytes.now s.place t.place) (λ p. Handed s.bytes.now s.place p.now t.place)
+  pub same : t.bytes.now ≡ s.bytes.now

@@ -1,6 +1,6 @@
-ghost use Rattle.std.specs.Prelude.{◌≡◌, MatchOption};
-ghost use Rattle.std.specs.Iterator.{YieldsFirstRef, item_count};
-ghost use Rattle.records.specs.Parts.{parts_of, Handed, Ended};
+ghost use Rattle.std.specs.Prelude.{◌≡◌};
+ghost use Rattle.std.specs.Iterator.{item_count};
+ghost use Rattle.records.specs.Parts.{parts_of, HandsOut};
 
 use super::RECORD_SIZE;
 
@@ -32,17 +32,12 @@ impl<'a> RecordReader<'a> {
 impl<'a> Iterator for RecordReader<'a> {
     type Item = &'a [u8];
 
-    // The records come in their order, one by one, and none behind the last.
-    ghost next_gives = { YieldsFirstRef parts_of };
+    ghost next_gives = { HandsOut };
 
     ghost remaining = { item_count parts_of };
 
     // The next record's bytes; nothing where fewer bytes than a record's are left.
-    fn next(&mut self) -> Option<&'a [u8]>
-        ensures cases { MatchOption result (Ended self.old.bytes.now self.old.place self.new.place)
-            (λ p. Handed self.old.bytes.now self.old.place p.now self.new.place) }
-        ensures same { self.new.bytes.now ≡ self.old.bytes.now }
-    {
+    fn next(&mut self) -> Option<&'a [u8]> {
         let bytes = self.bytes;
         let place = self.place;
         if place >= bytes.len() / RECORD_SIZE {

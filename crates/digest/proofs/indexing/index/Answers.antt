@@ -27,7 +27,7 @@ shape_of-entries-then-count-entries c = c.loop-part.invariant.5
 pub returns-then-count-entries : goal.returns-then-count-entries
 returns-then-count-entries c =
     let inv = c.loop-part.invariant in
-    let h = handed _ _ _ _ _ _ inv.0 inv.1 c.in-Some.ensures.cases in
+    let h = handed _ _ _ _ _ _ inv.0 inv.1 c.in-Some.ensures.steps.cases in
     record { few = (inv.2, (omega (arith, inv.3, inv.5), inv.4)); sound = inv.7.sound; indexed = λ few room. absurd (elim c.then-count-entries.either [ inl full ↦ omega (arith, h.whole, inv.5) | inr (some, full) ↦ omega (arith, h.whole) ]) }
 
 pub shape_of-entries-in_default-decode : goal.shape_of-entries-in_default-decode
@@ -36,7 +36,7 @@ shape_of-entries-in_default-decode c = c.loop-part.invariant.5
 pub returns-in_default-decode : goal.returns-in_default-decode
 returns-in_default-decode c =
     let inv = c.loop-part.invariant in
-    let h = handed _ _ _ _ _ _ inv.0 inv.1 c.in-Some.ensures.cases in
+    let h = handed _ _ _ _ _ _ inv.0 inv.1 c.in-Some.ensures.steps.cases in
     record {
       few = (inv.2, (omega (arith, inv.3, inv.5), inv.4));
       sound = inv.7.sound;
@@ -47,7 +47,7 @@ returns-in_default-decode c =
 pub returns : goal.returns
 returns c =
     let inv = c.loop-part.invariant in
-    let e = ended _ _ _ _ _ inv.0 inv.1 c.in_default.ensures.cases in
+    let e = ended _ _ _ _ _ inv.0 inv.1 c.in_default.ensures.steps.cases in
     let all : c.loop-part.count ≡ records_in c.args.file.now = omega (arith, inv.2, e.past) in
     record {
       few = (inv.2, (omega (arith, inv.3, inv.5), inv.4));
@@ -73,7 +73,7 @@ loop-part-preserved c =
     let inv = c.loop-part.invariant in
     let n = c.loop-part.count in
     let es = c.loop-part.entries in
-    let h = handed _ _ _ _ _ _ inv.0 inv.1 c.in-Some.ensures.cases in
+    let h = handed _ _ _ _ _ _ inv.0 inv.1 c.in-Some.ensures.steps.cases in
     let lt : n < length es = omega arith in
     let reads : decoded (part c.args.file.now n) ≡ Ok c.in-Ok.line = ap decoded (sym h.is) ∙ sym c.decode.ensures.value ∙ c.in-Ok.is in
     let more = indexed_more c.args.file.now n (take n es) c.in-Ok.line reads inv.7 in
@@ -87,7 +87,7 @@ loop-part-preserved c =
     c.entry_of-entry.ensures ∙ ap (λ k. entry_of (take k es) c.in-Ok.line) front in
     let whole : take (n + 1) (set es n c.entry_of-entry.result) ≡ take n es ++ entry_of (take n es) c.in-Ok.line ∷ [] =
     take_more_set es n c.entry_of-entry.result lt ∙ ap (λ (x : Entry). take n es ++ x ∷ []) new in (
-      c.in-Some.ensures.same ∙ inv.0,
+      c.in-Some.ensures.steps.same ∙ inv.0,
       h.onward ∙ sym (add-one n),
       omega (arith, h.whole),
       omega (arith, length-set es n c.entry_of-entry.result),

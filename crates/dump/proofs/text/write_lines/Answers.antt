@@ -19,7 +19,7 @@ returns-in_err-line c =
     let bs = c.args.file.now in
     let i = c.loop-part.place in
     let f = c.in_err-line.field-0.0 in
-    let handed = c.in-Some.ensures.cases in
+    let handed = c.in-Some.ensures.steps.cases in
     let within : i < records_in bs = omega (arith, ap records_in c.loop-part.invariant.0) in
     let e : judged_at (placed_at i (decoded (part bs i))) ≡ Err f =
     read_there bs i c.loop-part.reader.bytes.now c.loop-part.reader.place c.in-Some.part.now c.line_at.result (Err f) c.loop-part.invariant.0 c.loop-part.invariant.1 handed.is c.line_at.ensures c.in_err-line.was in
@@ -32,11 +32,11 @@ loop-part-preserved c =
     let bs = c.args.file.now in
     let i = c.loop-part.place in
     let l = c.in_ok-line.line in
-    let handed = c.in-Some.ensures.cases in
+    let handed = c.in-Some.ensures.steps.cases in
     let within : i < records_in bs = omega (arith, ap records_in c.loop-part.invariant.0) in
     let e : judged_at (placed_at i (decoded (part bs i))) ≡ Ok l =
     read_there bs i c.loop-part.reader.bytes.now c.loop-part.reader.place c.in-Some.part.now c.line_at.result (Ok l) c.loop-part.invariant.0 c.loop-part.invariant.1 handed.is c.line_at.ensures c.in_ok-line.was in
     let w : string_bytes c.writeln.new.self ≡ string_bytes c.loop-part.text ++ with_newline (line_text l) = known_when_ok c.writeln.result c.map_err.result c.in_ok-map_err.field-0 c.writeln.ensures.bytes c.map_err.ensures.variant c.in_ok-map_err.was in
     let more = onward bs i (records_in bs) c.loop-part.counts within l c.add.new.self (string_bytes c.loop-part.text) (string_bytes c.writeln.new.self) _ e c.add.ensures w c.loop-part.invariant.5 in
     let count : total c.add.new.self ≡ i + 1 = ap total c.add.ensures ∙ total_more c.loop-part.counts l.kind ∙ ap (λ (n : ℕ). n + 1) c.loop-part.invariant.2 in
-    (c.in-Some.ensures.same ∙ c.loop-part.invariant.0, omega arith, count, omega arith, c.loop-part.invariant.4, more)
+    (c.in-Some.ensures.steps.same ∙ c.loop-part.invariant.0, omega arith, count, omega arith, c.loop-part.invariant.4, more)

@@ -20,7 +20,7 @@ shape_of-entries-in_default-decode c = c.loop-part.invariant.3
 pub returns-in_default-decode : goal.returns-in_default-decode
 returns-in_default-decode c =
     let inv = c.loop-part.invariant in
-    let h = handed _ _ _ _ _ _ inv.0 inv.1 c.in-Some.ensures.cases in
+    let h = handed _ _ _ _ _ _ inv.0 inv.1 c.in-Some.ensures.steps.cases in
     record {
       few = inv.2;
       indexed = indexed_cut c.args.file.now c.loop-part.count (records_in c.args.file.now) _ h.whole
@@ -36,7 +36,7 @@ slice_bounds-entry_of-end c =
 pub bounds-entries-count : goal.bounds-entries-count
 bounds-entries-count c =
     let inv = c.loop-part.invariant in
-    let h = handed _ _ _ _ _ _ inv.0 inv.1 c.in-Some.ensures.cases in
+    let h = handed _ _ _ _ _ _ inv.0 inv.1 c.in-Some.ensures.steps.cases in
     omega (arith, h.whole, inv.3, c.requires.1)
 
 pub loop-part-preserved : goal.loop-part-preserved
@@ -44,7 +44,7 @@ loop-part-preserved c =
     let inv = c.loop-part.invariant in
     let n = c.loop-part.count in
     let es = c.loop-part.entries in
-    let h = handed _ _ _ _ _ _ inv.0 inv.1 c.in-Some.ensures.cases in
+    let h = handed _ _ _ _ _ _ inv.0 inv.1 c.in-Some.ensures.steps.cases in
     let lt : n < length es = omega (arith, h.whole, inv.3, c.requires.1) in
     let reads : decoded (part c.args.file.now n) ≡ Ok c.in-Ok.line = ap decoded (sym h.is) ∙ sym c.decode.ensures.value ∙ c.in-Ok.is in
     let more = indexed_more c.args.file.now n (take n es) c.in-Ok.line reads inv.4 in
@@ -53,7 +53,7 @@ loop-part-preserved c =
     c.entry_of-entry.ensures ∙ ap (λ k. entry_of (take k es) c.in-Ok.line) front in
     let whole : take (n + 1) (set es n c.entry_of-entry.result) ≡ take n es ++ entry_of (take n es) c.in-Ok.line ∷ [] =
     take_more_set es n c.entry_of-entry.result lt ∙ ap (λ (x : Entry). take n es ++ x ∷ []) new in (
-      c.in-Some.ensures.same ∙ inv.0,
+      c.in-Some.ensures.steps.same ∙ inv.0,
       h.onward ∙ sym (add-one n),
       omega (arith, h.whole),
       length-set es n c.entry_of-entry.result ∙ inv.3,

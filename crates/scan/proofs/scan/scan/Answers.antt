@@ -23,7 +23,7 @@ returns-in_err-test_record c =
     let n = c.loop-part.place in
     let p = err_from_is_err_and c.from_residual.result c.from_residual.ensures.1 in
     let t = told bs c.loop-part.reader.bytes.now n c.loop-part.reader.place c.next.new.self.place c.in-Some.part.now c.test_record.result
-    c.loop-part.invariant.0 c.loop-part.invariant.1 c.in-Some.ensures.cases c.test_record.ensures in
+    c.loop-part.invariant.0 c.loop-part.invariant.1 c.in-Some.ensures.steps.cases c.test_record.ensures in
     rw (p.1, p.2) (record {
       answer = sym (refused_at bs n (records_in bs) c.in_err-test_record.field-0.0 t.0 c.loop-part.invariant.3 (sym t.2 ∙ c.in_err-test_record.was));
       good = tt;
@@ -35,9 +35,9 @@ loop-part-preserved c =
     let bs = c.args.file.now in
     let n = c.loop-part.place in
     let t = told bs c.loop-part.reader.bytes.now n c.loop-part.reader.place c.next.new.self.place c.in-Some.part.now c.test_record.result
-    c.loop-part.invariant.0 c.loop-part.invariant.1 c.in-Some.ensures.cases c.test_record.ensures in
+    c.loop-part.invariant.0 c.loop-part.invariant.1 c.in-Some.ensures.steps.cases c.test_record.ensures in
     let on : suc n ≡ c.place-place.result = sym t.1 ∙ sym c.place-place.ensures in (
-      c.in-Some.ensures.same ∙ c.loop-part.invariant.0,
+      c.in-Some.ensures.steps.same ∙ c.loop-part.invariant.0,
       sym c.place-place.ensures,
       subst (λ k. k ≤ records_in bs) on (omega (arith, t.0)),
       subst (λ k. Scanned bs k) on (one_scanned bs n c.loop-part.invariant.3 (sym t.2 ∙ c.in_ok-test_record.was)),

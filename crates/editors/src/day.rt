@@ -33,7 +33,7 @@ pub(crate) fn day<S: Shelf + Drop>(
 fn find_books(rt: &HostRuntime, lines: &mut Lines<'_>) -> io::Result<Option<BooksSize>> {
     for line in lines {
         let text = line.as_str();
-        if let Some(Instruction::Books(size)) = parse(text) {
+        if let Some(Instruction::Books(size)) = parse(rt.alloc(), text)? {
             println!(rt; "{text} = ok")?;
             return Ok(Some(size));
         }
@@ -43,19 +43,22 @@ fn find_books(rt: &HostRuntime, lines: &mut Lines<'_>) -> io::Result<Option<Book
 }
 
 // The command of a line that is carried out; to save the journal it is asked for.
-fn command_of(line: &str) -> Option<Command> {
-    match parse(line)? {
-        Instruction::Ask(command) => Some(command),
-        Instruction::Save => Some(Command::Journal),
-        Instruction::Shelf(_) | Instruction::Books(_) => None,
-    }
+fn command_of(heap: Global, line: &str) -> Result<Option<Command>, AllocError> {
+    Ok(match parse(heap, line)? {
+        Some(Instruction::Ask(command)) => Some(command),
+        Some(Instruction::Save(_)) => Some(Command::Journal),
+        Some(Instruction::Shelf(_) | Instruction::Books(_)) | None => None,
+    })
 }
 
 fn script_of(heap: Global, lines: &[String]) -> Result<Vec<Command>, AllocError> {
-    lines
-        .iter()
-        .filter_map(|line| command_of(line.as_str()))
-        .collect(heap)
+    let mut script = Vec::new(heap);
+    for line in lines {
+        if let Some(command) = command_of(heap, line.as_str())? {
+            script.push(command)?;
+        }
+    }
+    Ok(script)
 }
 
 // Prints each line with its answer.
@@ -63,36 +66,31 @@ fn print_all(rt: &HostRuntime, lines: &[String], answers: &[Answer], cards: u32)
     let mut answers = answers.iter();
     for line in lines {
         let text = line.as_str();
-        if command_of(text).is_none() {
-            println!(rt; "{text} = not understood")?;
-            continue;
-        }
-        if let Some(answer) = answers.next() {
-            print!(rt; "{text} = ")?;
-            match file_of(text) {
-                Some(file) => save(rt, file, answer)?,
-                None => println!(rt; "{}", Shown { answer, cards })?,
+        match parse(rt.alloc(), text)? {
+            Some(Instruction::Ask(_)) => {
+                if let Some(answer) = answers.next() {
+                    println!(rt; "{text} = {}", Shown { answer, cards })?;
+                }
+            }
+            Some(Instruction::Save(file)) => {
+                let saved = save(rt, file, answers.next())?;
+                println!(rt; "{text} = {}", if saved { "ok" } else { "not saved" })?;
+            }
+            Some(Instruction::Shelf(_) | Instruction::Books(_)) | None => {
+                println!(rt; "{text} = not understood")?;
             }
         }
     }
     Ok(())
 }
 
-// The file of a `save`.
-fn file_of(line: &str) -> Option<&str> {
-    let mut words = line.split_whitespace();
-    let name = words.next()?;
-    words.next().filter(|_| name == "save")
-}
-
-// Writes the journal as a history file.
-fn save(rt: &HostRuntime, file: &str, answer: &Answer) -> io::Result<()> {
-    if let Answer::Journal(lines) = answer {
-        if let Some(bytes) = history_file(rt.alloc(), lines)? {
-            if fs::write(rt, file, &bytes).is_ok() {
-                return println!(rt; "ok");
-            }
-        }
-    }
-    println!(rt; "not saved")
+// Writes the journal as a history file, and says whether it was written.
+fn save(rt: &HostRuntime, file: &str, answer: Option<&Answer>) -> Result<bool, AllocError> {
+    let Some(Answer::Journal(lines)) = answer else {
+        return Ok(false);
+    };
+    let Some(bytes) = history_file(rt.alloc(), lines)? else {
+        return Ok(false);
+    };
+    Ok(fs::write(rt, file, &bytes).is_ok())
 }

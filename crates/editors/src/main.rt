@@ -47,7 +47,7 @@ fn session(rt: &HostRuntime, lines: &[String]) -> io::Result<()> {
 fn find_shelf(rt: &HostRuntime, lines: &mut Lines<'_>) -> io::Result<Option<Made>> {
     for line in lines {
         let text = line.as_str();
-        let Some(Instruction::Shelf(make)) = parse(text) else {
+        let Some(Instruction::Shelf(make)) = parse(rt.alloc(), text)? else {
             println!(rt; "{text} = not understood")?;
             continue;
         };

@@ -1,8 +1,9 @@
 // The lines of a script, and how they are read.
+use scripts::size_of;
 use sessions::Command;
 use shelves::Size;
 use stamps::{CardNo, TxNo, Value, VersionNo};
-use std::str::SplitWhitespace;
+use std::alloc::{AllocError, Global};
 
 // Which shelf to make.
 #[derive(Clone, Copy)]
@@ -22,122 +23,95 @@ pub(crate) struct BooksSize {
     pub(crate) lines: usize,
 }
 
-// What a line says; the file of a `save` is the line's second word.
+// What a line says.
 #[derive(Clone, Copy)]
-pub(crate) enum Instruction {
+pub(crate) enum Instruction<'a> {
     Shelf(Make),
     Books(BooksSize),
     Ask(Command),
-    Save,
+    // To write the journal into a file of this name.
+    Save(&'a str),
 }
 
 // What a line says; none where it says nothing that is understood.
-pub(crate) fn parse(line: &str) -> Option<Instruction> {
-    let mut words = line.split_whitespace();
-    let name = words.next()?;
-    let read = read_instruction(name, &mut words)?;
-    if words.next().is_some() {
-        return None;
-    }
-    Some(read)
+pub(crate) fn parse(heap: Global, line: &str) -> Result<Option<Instruction<'_>>, AllocError> {
+    let words: Vec<&str> = line.split_whitespace().collect(heap)?;
+    Ok(instruction_of(&words))
 }
 
-fn read_instruction(name: &str, words: &mut SplitWhitespace<'_>) -> Option<Instruction> {
-    match name {
-        "shelf" => Some(Instruction::Shelf(read_make(words)?)),
-        "books" => Some(Instruction::Books(read_books(words)?)),
-        "save" => {
-            words.next()?;
-            Some(Instruction::Save)
+fn instruction_of<'a>(words: &[&'a str]) -> Option<Instruction<'a>> {
+    match *words {
+        ["shelf", ..] => Some(Instruction::Shelf(make_of(words)?)),
+        ["books", places, lines] => Some(Instruction::Books(BooksSize {
+            places: places.parse::<u32>().ok()? as usize,
+            lines: lines.parse::<u32>().ok()? as usize,
+        })),
+        ["save", file] => Some(Instruction::Save(file)),
+        _ => Some(Instruction::Ask(command_of(words)?)),
+    }
+}
+
+fn make_of(words: &[&str]) -> Option<Make> {
+    match *words {
+        ["shelf", "row", c, w, p] => Some(Make::Row(size_of([c, w, p])?)),
+        ["shelf", "pool", c, w, p] => Some(Make::Pool(size_of([c, w, p])?)),
+        ["shelf", "split", "row", c, w, p, "pool", d, v, q] => {
+            Some(Make::Split(size_of([c, w, p])?, size_of([d, v, q])?))
         }
-        "set-up" => Some(Instruction::Ask(Command::SetUp)),
-        "open" => Some(Instruction::Ask(Command::Open)),
-        "close" => Some(Instruction::Ask(Command::Close)),
-        "journal" => Some(Instruction::Ask(Command::Journal)),
-        _ => Some(Instruction::Ask(read_command(name, words)?)),
+        [
+            "shelf",
+            "split",
+            "split",
+            "row",
+            c,
+            w,
+            p,
+            "pool",
+            d,
+            v,
+            q,
+            "row",
+            e,
+            u,
+            r,
+        ] => Some(Make::Nested(
+            size_of([c, w, p])?,
+            size_of([d, v, q])?,
+            size_of([e, u, r])?,
+        )),
+        _ => None,
     }
 }
 
-// A command with numbers behind it.
-fn read_command(name: &str, words: &mut SplitWhitespace<'_>) -> Option<Command> {
-    let first = read_number(words)?;
-    match name {
-        "commit" => Some(Command::Commit(TxNo(first))),
-        "abandon" => Some(Command::Abandon(TxNo(first))),
-        "versions" => Some(Command::Versions(CardNo(first))),
-        "stamp" => Some(Command::Stamp(CardNo(first), VersionNo(read_number(words)?))),
-        "read" => Some(Command::Read(TxNo(first), CardNo(read_number(words)?))),
-        "draft" => {
-            let card = CardNo(read_number(words)?);
-            Some(Command::Draft(TxNo(first), card, read_value(words)?))
+fn command_of(words: &[&str]) -> Option<Command> {
+    match *words {
+        ["set-up"] => Some(Command::SetUp),
+        ["open"] => Some(Command::Open),
+        ["close"] => Some(Command::Close),
+        ["journal"] => Some(Command::Journal),
+        ["commit", number] => Some(Command::Commit(transaction(number)?)),
+        ["abandon", number] => Some(Command::Abandon(transaction(number)?)),
+        ["versions", of] => Some(Command::Versions(card(of)?)),
+        ["stamp", of, version] => {
+            let version = VersionNo(version.parse().ok()?);
+            Some(Command::Stamp(card(of)?, version))
+        }
+        ["read", number, of] => Some(Command::Read(transaction(number)?, card(of)?)),
+        ["draft", number, of, first, second] => {
+            let value = Value {
+                first: first.parse().ok()?,
+                second: second.parse().ok()?,
+            };
+            Some(Command::Draft(transaction(number)?, card(of)?, value))
         }
         _ => None,
     }
 }
 
-fn read_make(words: &mut SplitWhitespace<'_>) -> Option<Make> {
-    match words.next()? {
-        "row" => Some(Make::Row(read_size(words)?)),
-        "pool" => Some(Make::Pool(read_size(words)?)),
-        "split" => read_split(words),
-        _ => None,
-    }
+fn transaction(word: &str) -> Option<TxNo> {
+    word.parse().ok().map(TxNo)
 }
 
-fn read_split(words: &mut SplitWhitespace<'_>) -> Option<Make> {
-    match words.next()? {
-        "row" => {
-            let (left, right) = read_pair(words)?;
-            Some(Make::Split(left, right))
-        }
-        "split" => {
-            read_name(words, "row")?;
-            let (left, right) = read_pair(words)?;
-            read_name(words, "row")?;
-            Some(Make::Nested(left, right, read_size(words)?))
-        }
-        _ => None,
-    }
-}
-
-// The sizes of a row and a pool, behind the row's name.
-fn read_pair(words: &mut SplitWhitespace<'_>) -> Option<(Size, Size)> {
-    let left = read_size(words)?;
-    read_name(words, "pool")?;
-    Some((left, read_size(words)?))
-}
-
-fn read_name(words: &mut SplitWhitespace<'_>, name: &str) -> Option<()> {
-    if words.next()? == name {
-        Some(())
-    } else {
-        None
-    }
-}
-
-fn read_size(words: &mut SplitWhitespace<'_>) -> Option<Size> {
-    let cards = read_number(words)?;
-    let width = read_number(words)?;
-    let places = read_number(words)?;
-    Some(Size {
-        cards,
-        width,
-        places,
-    })
-}
-
-fn read_books(words: &mut SplitWhitespace<'_>) -> Option<BooksSize> {
-    let places = read_number(words)? as usize;
-    let lines = read_number(words)? as usize;
-    Some(BooksSize { places, lines })
-}
-
-fn read_value(words: &mut SplitWhitespace<'_>) -> Option<Value> {
-    let first = words.next()?.parse::<u64>().ok()?;
-    let second = words.next()?.parse::<u64>().ok()?;
-    Some(Value { first, second })
-}
-
-fn read_number(words: &mut SplitWhitespace<'_>) -> Option<u32> {
-    words.next()?.parse::<u32>().ok()
+fn card(word: &str) -> Option<CardNo> {
+    word.parse().ok().map(CardNo)
 }

@@ -1,7 +1,7 @@
 // How answers are printed.
 use records::Line;
+use scripts::Counts;
 use sessions::Answer;
-use stamps::{CardNo, Stamp};
 use std::fmt;
 use transactions::{Event, Reading, Refusal};
 
@@ -21,7 +21,13 @@ impl fmt::Display for Shown<'_> {
             Answer::SlipsHeld => write!(f, "slips held"),
             Answer::Versions(_, Some(count)) => write!(f, "{count}"),
             Answer::Versions(_, None) | Answer::Stamp(_, _, None) => write!(f, "absent"),
-            Answer::Stamp(_, _, Some(stamp)) => show_counts(stamp, self.cards, f),
+            Answer::Stamp(_, _, Some(stamp)) => {
+                let counts = Counts {
+                    stamp: *stamp,
+                    cards: self.cards,
+                };
+                write!(f, "{counts}")
+            }
             Answer::Journal(lines) => show_journal(lines, f),
         }
     }
@@ -58,16 +64,6 @@ fn show_reading<W: fmt::Write>(reading: Reading, f: &mut fmt::Formatter<W>) -> f
     let first = reading.value.first;
     let second = reading.value.second;
     write!(f, "version {version} words {first} {second}")
-}
-
-fn show_counts<W: fmt::Write>(stamp: &Stamp, cards: u32, f: &mut fmt::Formatter<W>) -> fmt::Result {
-    for card in (0..cards).map(CardNo) {
-        if card > CardNo(0) {
-            write!(f, " ")?;
-        }
-        write!(f, "{}", stamp.entry(card))?;
-    }
-    Ok(())
 }
 
 // How many lines there are, and each below.

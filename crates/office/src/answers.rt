@@ -1,5 +1,6 @@
 // What a session answers to each command.
 use crate::command::{Command, Entry, Make, Question};
+use scripts::Counts;
 use shelves::{
     CheckRefusal, PoolMemory, PoolShelf, PutRefusal, RowMemory, RowShelf, Shelf, Size, SplitShelf,
 };
@@ -10,14 +11,18 @@ use std::io;
 // The shelf that a session works with.
 #[derive(Drop)]
 pub enum Held {
-    Nothing,
     Row(RowShelf),
     Pool(PoolShelf),
     Split(SplitShelf<RowShelf, PoolShelf>),
 }
 
 // Carries out a command, and prints its line with the answer.
-pub fn answer(rt: &HostRuntime, held: &mut Held, line: &str, command: Command) -> io::Result<()> {
+pub fn answer(
+    rt: &HostRuntime,
+    held: &mut Option<Held>,
+    line: &str,
+    command: Command,
+) -> io::Result<()> {
     print!(rt; "{line} = ")?;
     match command {
         Command::Shelf(make) => match made(rt.alloc(), held, make)? {
@@ -25,34 +30,40 @@ pub fn answer(rt: &HostRuntime, held: &mut Held, line: &str, command: Command) -
             Err(refusal) => println!(rt; "REFUSED {}", refusal.number()),
         },
         Command::Ask(question) => match held {
-            Held::Nothing => println!(rt; "no shelf"),
-            Held::Row(shelf) => ask(rt, shelf, question),
-            Held::Pool(shelf) => ask(rt, shelf, question),
-            Held::Split(shelf) => ask(rt, shelf, question),
+            None => println!(rt; "no shelf"),
+            Some(Held::Row(shelf)) => ask(rt, shelf, question),
+            Some(Held::Pool(shelf)) => ask(rt, shelf, question),
+            Some(Held::Split(shelf)) => ask(rt, shelf, question),
         },
     }
 }
 
 // Makes a shelf, and says whether it fitted; the shelf of no cards is held if not.
-fn made(heap: Global, held: &mut Held, make: Make) -> Result<Result<(), CheckRefusal>, AllocError> {
-    match make {
+fn made(
+    heap: Global,
+    held: &mut Option<Held>,
+    make: Make,
+) -> Result<Result<(), CheckRefusal>, AllocError> {
+    let (shelf, fits) = match make {
         Make::Row(size) => {
             let (shelf, fits) = row(heap, size)?;
-            *held = Held::Row(shelf);
-            Ok(fits)
+            (Held::Row(shelf), fits)
         }
         Make::Pool(size) => {
             let (shelf, fits) = pool(heap, size)?;
-            *held = Held::Pool(shelf);
-            Ok(fits)
+            (Held::Pool(shelf), fits)
         }
         Make::Split(left, right) => {
             let (left, fits) = row(heap, left)?;
             let (right, fits_too) = pool(heap, right)?;
-            *held = Held::Split(SplitShelf::new(left, right));
-            Ok(fits.and(fits_too))
+            (
+                Held::Split(SplitShelf::new(left, right)),
+                fits.and(fits_too),
+            )
         }
-    }
+    };
+    *held = Some(shelf);
+    Ok(fits)
 }
 
 fn row(heap: Global, size: Size) -> Result<(RowShelf, Result<(), CheckRefusal>), AllocError> {
@@ -78,7 +89,7 @@ fn ask<S: Shelf>(rt: &HostRuntime, shelf: &mut S, question: Question) -> io::Res
             None => println!(rt; "absent"),
         },
         Question::Version(card, version) => show(rt, shelf, card, version),
-        Question::Stamp(card, version) => counts(rt, shelf, card, version),
+        Question::Stamp(card, version) => stamp(rt, shelf, card, version),
     }
 }
 
@@ -100,28 +111,28 @@ fn count(rt: &HostRuntime, n: Option<u32>) -> io::Result<()> {
 
 fn show<S: Shelf>(rt: &HostRuntime, shelf: &S, card: CardNo, version: VersionNo) -> io::Result<()> {
     match (shelf.value(card, version), shelf.writer(card, version)) {
-        (Some(value), Some(writer)) => println!(rt;
-            "words {} {} writer {}",
-            value.first, value.second, writer.0
-        ),
+        (Some(value), Some(writer)) => {
+            println!(rt; "words {} {} writer {writer}", value.first, value.second)
+        }
         _ => println!(rt; "absent"),
     }
 }
 
-fn counts<S: Shelf>(
+// The whole stamp of a version.
+fn stamp<S: Shelf>(
     rt: &HostRuntime,
     shelf: &S,
     card: CardNo,
     version: VersionNo,
 ) -> io::Result<()> {
-    let Some(stamp) = shelf.stamp(card, version) else {
-        return println!(rt; "absent");
-    };
-    for i in 0..shelf.width() {
-        if i > 0 {
-            print!(rt; " ")?;
-        }
-        print!(rt; "{}", stamp.entry(CardNo(i)))?;
+    match shelf.stamp(card, version) {
+        Some(stamp) => println!(rt;
+            "{}",
+            Counts {
+                stamp,
+                cards: shelf.width()
+            }
+        ),
+        None => println!(rt; "absent"),
     }
-    println!(rt; "")
 }

@@ -1,8 +1,9 @@
 // The commands of a session, and how a line is read.
+use scripts::size_of;
 use shelves::Size;
 use stamps::{CardNo, TxNo, Value, VersionNo};
 use std::alloc::{AllocError, Global};
-use std::str::SplitWhitespace;
+use std::num::ParseIntError;
 
 // Which shelf to make.
 #[derive(Clone, Copy)]
@@ -39,105 +40,81 @@ pub enum Command {
     Ask(Question),
 }
 
-// The command that a line gives; none if it gives none.
-pub fn parse(heap: Global, line: &str) -> Result<Option<Command>, AllocError> {
-    let mut words = line.split_whitespace();
-    let Some(name) = words.next() else {
-        return Ok(None);
-    };
-    if name == "put" {
-        return read_entry(heap, words);
+// Why a line gives no command: it is not understood, or there is no memory for it.
+#[derive(Clone, Copy)]
+pub enum Unread {
+    NotUnderstood,
+    NoMemory(AllocError),
+}
+
+impl From<ParseIntError> for Unread {
+    fn from(_: ParseIntError) -> Unread {
+        Unread::NotUnderstood
     }
-    if name == "shelf" {
-        return Ok(read_shelf(&mut words));
+}
+
+impl From<AllocError> for Unread {
+    fn from(error: AllocError) -> Unread {
+        Unread::NoMemory(error)
     }
-    Ok(read_asked(name, &mut words))
 }
 
-fn read_shelf(words: &mut SplitWhitespace<'_>) -> Option<Command> {
-    Some(Command::Shelf(read_make(words)?))
+// The command that a line gives. Words behind those that a command needs are passed over.
+pub fn parse(heap: Global, line: &str) -> Result<Command, Unread> {
+    let words: Vec<&str> = line.split_whitespace().collect(heap)?;
+    match words.as_slice() {
+        ["shelf", make @ ..] => {
+            let make = make_of(make).ok_or(Unread::NotUnderstood)?;
+            Ok(Command::Shelf(make))
+        }
+        ["put", entry @ ..] => Ok(Command::Ask(Question::Put(entry_of(heap, entry)?))),
+        question => Ok(Command::Ask(question_of(question)?)),
+    }
 }
 
-fn read_asked(name: &str, words: &mut SplitWhitespace<'_>) -> Option<Command> {
-    Some(Command::Ask(read_question(name, words)?))
-}
-
-fn read_question(name: &str, words: &mut SplitWhitespace<'_>) -> Option<Question> {
-    let card = CardNo(read_number(words)?);
-    match name {
-        "versions" => Some(Question::Versions(card)),
-        "free" => Some(Question::Free(card)),
-        "shares" => Some(Question::Shares(card, CardNo(read_number(words)?))),
-        "version" => Some(Question::Version(card, VersionNo(read_number(words)?))),
-        "stamp" => Some(Question::Stamp(card, VersionNo(read_number(words)?))),
+fn make_of(words: &[&str]) -> Option<Make> {
+    match *words {
+        ["row", c, w, p, ..] => Some(Make::Row(size_of([c, w, p])?)),
+        ["pool", c, w, p, ..] => Some(Make::Pool(size_of([c, w, p])?)),
+        ["split", "row", c, w, p, "pool", d, v, q, ..] => {
+            Some(Make::Split(size_of([c, w, p])?, size_of([d, v, q])?))
+        }
         _ => None,
     }
 }
 
-fn read_make(words: &mut SplitWhitespace<'_>) -> Option<Make> {
-    match words.next()? {
-        "row" => Some(Make::Row(read_size(words)?)),
-        "pool" => Some(Make::Pool(read_size(words)?)),
-        "split" => read_split(words),
-        _ => None,
-    }
-}
-
-// The two sizes of a split, each after its make's name.
-fn read_split(words: &mut SplitWhitespace<'_>) -> Option<Make> {
-    if words.next()? != "row" {
-        return None;
-    }
-    let left = read_size(words)?;
-    if words.next()? != "pool" {
-        return None;
-    }
-    Some(Make::Split(left, read_size(words)?))
-}
-
-fn read_size(words: &mut SplitWhitespace<'_>) -> Option<Size> {
-    let cards = read_number(words)?;
-    let width = read_number(words)?;
-    let places = read_number(words)?;
-    Some(Size {
-        cards,
-        width,
-        places,
+fn question_of(words: &[&str]) -> Result<Question, Unread> {
+    Ok(match *words {
+        ["versions", card, ..] => Question::Versions(CardNo(card.parse()?)),
+        ["free", card, ..] => Question::Free(CardNo(card.parse()?)),
+        ["shares", one, other, ..] => {
+            Question::Shares(CardNo(one.parse()?), CardNo(other.parse()?))
+        }
+        ["version", card, version, ..] => {
+            Question::Version(CardNo(card.parse()?), VersionNo(version.parse()?))
+        }
+        ["stamp", card, version, ..] => {
+            Question::Stamp(CardNo(card.parse()?), VersionNo(version.parse()?))
+        }
+        _ => return Err(Unread::NotUnderstood),
     })
 }
 
-fn read_number(words: &mut SplitWhitespace<'_>) -> Option<u32> {
-    words.next()?.parse::<u32>().ok()
-}
-
-fn read_word(words: &mut SplitWhitespace<'_>) -> Option<u64> {
-    words.next()?.parse::<u64>().ok()
-}
-
 // A version to be put: its card, its two words, its writer, and then its counts.
-fn read_entry(heap: Global, mut words: SplitWhitespace<'_>) -> Result<Option<Command>, AllocError> {
-    let Some((card, value, writer)) = read_head(&mut words) else {
-        return Ok(None);
+fn entry_of(heap: Global, words: &[&str]) -> Result<Entry, Unread> {
+    let [card, first, second, writer, counts @ ..] = words else {
+        return Err(Unread::NotUnderstood);
     };
-    let mut counts = Vec::new(heap);
-    for word in words {
-        let Ok(count) = word.parse::<u32>() else {
-            return Ok(None);
-        };
-        counts.push(count)?;
-    }
-    Ok(Some(Command::Ask(Question::Put(Entry {
-        card,
-        value,
-        writer,
-        counts,
-    }))))
-}
-
-fn read_head(words: &mut SplitWhitespace<'_>) -> Option<(CardNo, Value, TxNo)> {
-    let card = CardNo(read_number(words)?);
-    let first = read_word(words)?;
-    let second = read_word(words)?;
-    let writer = TxNo(read_number(words)?);
-    Some((card, Value { first, second }, writer))
+    Ok(Entry {
+        card: CardNo(card.parse()?),
+        value: Value {
+            first: first.parse()?,
+            second: second.parse()?,
+        },
+        writer: TxNo(writer.parse()?),
+        counts: counts
+            .iter()
+            .map(|count| count.parse().map_err(Unread::from))
+            .try_collect(heap)?,
+    })
 }

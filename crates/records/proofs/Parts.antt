@@ -26,23 +26,24 @@ ended s t h =
     let past : records_in s.bytes.now ≤ s.place = h.cases.past in
     length-map-range_with_len (part s.bytes.now) s.place (records_in s.bytes.now - s.place) ∙ omega arith
 
-module _ (bs : List ℕ) (s : RecordReader) (file : s.bytes.now ≡ bs) (start : s.place ≡ 0) where
+-- s goes over the reader r, which was made of a file
+module _ (bs : List ℕ) (s r : RecordReader) (goes : s ≡ r) (file : r.bytes.now ≡ bs) (start : r.place ≡ 0) where
   handed_out : YieldsList HandsOut (λ p. p.now) s (parts_left bs 0)
-  handed_out = subst (λ (ps : List (List ℕ)). YieldsList HandsOut (λ p. p.now) s ps) (λ i. parts_left (file i) (start i))
+  handed_out = subst (λ (ps : List (List ℕ)). YieldsList HandsOut (λ p. p.now) s ps) (ap parts_of goes ∙ (λ i. parts_left (file i) (start i)))
       (YieldsList-from_shown HandsOut (λ p. p.now) parts_of ended onward s)
 
   many : length (parts_left bs 0) ≡ records_in bs
   many = length-map-range_with_len (part bs) 0 (records_in bs - 0) ∙ omega arith
 
   -- in a loop over the reader: behind the records ps comes the one at their number
-  pub handed_next : (ps : List (Bor (List ℕ))) (t : RecordReader) → Yields HandsOut s ps t → (r : Option (Bor (List ℕ))) (u : RecordReader)
-      → (p : Bor (List ℕ)) → r ≡ Some p → HandsOut t r u → (length ps < records_in bs) × (p.now ≡ part bs (length ps))
-  handed_next ps t y r u p is h =
-      let turn = YieldsList-turn handed_out ps t y r u p is h in
+  pub handed_next : (ps : List (Bor (List ℕ))) (t : RecordReader) → Yields HandsOut s ps t → (o : Option (Bor (List ℕ))) (u : RecordReader)
+      → (p : Bor (List ℕ)) → o ≡ Some p → HandsOut t o u → (length ps < records_in bs) × (p.now ≡ part bs (length ps))
+  handed_next ps t y o u p is h =
+      let turn = YieldsList-turn handed_out ps t y o u p is h in
       let within : length ps < records_in bs = omega (arith, turn.0, many) in
       (within, turn.1 ∙ get_or-map-range_with_len (part bs) 0 (records_in bs - 0) (length ps) (length ps) p.now (omega arith) (omega arith))
 
   -- and at its end all have come
-  pub handed_all : (ps : List (Bor (List ℕ))) (t : RecordReader) → Yields HandsOut s ps t → (r : Option (Bor (List ℕ))) (u : RecordReader)
-      → r ≡ None → HandsOut t r u → length ps ≡ records_in bs
-  handed_all ps t y r u is h = (YieldsList-end handed_out ps t y r u is h).1 ∙ many
+  pub handed_all : (ps : List (Bor (List ℕ))) (t : RecordReader) → Yields HandsOut s ps t → (o : Option (Bor (List ℕ))) (u : RecordReader)
+      → o ≡ None → HandsOut t o u → length ps ≡ records_in bs
+  handed_all ps t y o u is h = (YieldsList-end handed_out ps t y o u is h).1 ∙ many

@@ -1,3 +1,2 @@
 mod Scans
 mod Tested
-mod Accepting

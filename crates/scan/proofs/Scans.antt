@@ -1,5 +1,5 @@
 -- Lines of the first records, one more at a time. Assumes nothing.
-use Rattle.std.proofs.Common.{◌≡◌, ℕ, zero, suc, ◌+◌, ◌-◌, ◌<◌, ◌≤◌, Bool, true, false, ◌&&◌, ◌||◌, eqb, List, [], ◌∷◌, ◌++◌, is_ok, Ok, Err, Result, sym, refl, ap, ◌∙◌, subst, ⊎_elim, add-one, arith, length-append}
+use Rattle.std.proofs.Common.{◌≡◌, ℕ, zero, suc, ◌+◌, ◌-◌, ◌<◌, ◌≤◌, Bool, true, false, ◌&&◌, ◌||◌, eqb, List, [], ◌∷◌, ◌++◌, is_ok, Ok, Err, Result, sym, refl, ap, ◌∙◌, subst, ⊎_elim, inl, inr, eq-eqb, add-one, arith, length-append}
 use Rattle.std.proofs.str.Laws.{order}
 use Rattle.std.specs.Result.{result_ok}
 use Rattle.std.specs.Option.{option_to_list}
@@ -7,14 +7,15 @@ use Rattle.records.specs.declared.line.Line.{Line}
 use Rattle.records.specs.declared.fault.RecordFault.{RecordFault}
 use Rattle.records.specs.declared.kind.Kind.{Kind}
 use Rattle.records.specs.declared.kind.Kind.TheVariants as Kinds
-use Rattle.records.specs.Format.{decoded, good_card}
+use Rattle.records.specs.Format.{decoded, good_card, placed_at}
 use Rattle.records.specs.Parts.{part}
 use Rattle.rules.specs.Rules.{some, is_read, is_writ, is_end}
-use Rattle.scan.specs.Scanning.{Readable, lines_of, deed_told, deed_card, node, Seen, NoneAmong}
+use Rattle.scan.specs.Scanning.{Readable, lines_of, deed_told, deed_card, node, Seen}
 use Rattle.scan.specs.declared.deed.Deed.{Deed}
 use Rattle.scan.specs.declared.deed.Deed.TheVariants.{Ended, Read, Written}
 use Rattle.stamps.specs.declared.numbers.TxNo.{TxNo}
-use Rattle.reach.specs.Links.{from, Last}
+use Rattle.reach.specs.Links.{from, leaves}
+use Rattle.std.proofs.lemmas.Bool.{cases_Bool}
 use Rattle.std.proofs.lemmas.Bool.Decides.{eqb_tells}
 use Rattle.std.proofs.lemmas.List.{get_or_append_left, get_or_at}
 
@@ -82,10 +83,26 @@ unequal a b apart = ⊎_elim
     (λ (h : (eqb a b ≡ true) × (a ≡ b)). absurd (apart h.1))
     (λ (h : (eqb a b ≡ false) × (a ≡ b → ⊥)). h.0) (eqb_tells a b)
 
+pub apart_from : (a b : ℕ) → eqb a b ≡ false → a ≡ b → ⊥
+apart_from a b differ same = let z : true ≡ false = sym (eq-eqb a b same) ∙ differ in absurd (cc)
+
 -- a record without a bad field reads as a line
 pub read_as_line : (r : Result Line RecordFault) → is_ok r ≡ true → (l : Line) × (r ≡ Ok l)
 read_as_line (Ok l) e = (l, refl)
 read_as_line (Err f) e = let z : ◌≡◌ {A = ℕ} 0 1 = cc in absurd (omega arith)
+
+-- the line that is read at a place is the record's
+pub read_there : (i : ℕ) (r : Result Line RecordFault) (l : Line) → Ok l ≡ placed_at i r → r ≡ Ok l
+read_there i (Ok m) l e = cc
+read_there i (Err f) l e = let z : ◌≡◌ {A = ℕ} 0 1 = cc in absurd (omega arith)
+
+-- one record more has no bad field
+pub readable_more : (bs : List ℕ) (n : ℕ) (l : Line) → Readable bs n → decoded (part bs n) ≡ Ok l → Readable bs (n + 1)
+readable_more bs n l good is i lt =
+    ⊎_elim
+    (λ (below : i < n). good i below)
+    (λ (ge : n ≤ i). let same : n ≡ i = omega arith in subst (λ k. is_ok (decoded (part bs k)) ≡ true) same (ap is_ok is))
+    (order i n)
 
 -- a line of another transaction tells nothing of this one
 pub untold : (d : Deed) (t : ℕ) (l : Line) → eqb l.transaction.0 t ≡ false → deed_told d t l ≡ false
@@ -105,31 +122,32 @@ off_card Ended t l fit apart = ending l.kind l.card.0 (eqb l.transaction.0 t) fi
 off_card (Read x) t l fit apart = last_of_three (is_read l.kind) (eqb l.transaction.0 t) (eqb l.card.0 x.0) (unequal l.card.0 x.0 apart)
 off_card (Written x) t l fit apart = last_of_three (is_writ l.kind) (eqb l.transaction.0 t) (eqb l.card.0 x.0) (unequal l.card.0 x.0 apart)
 
--- no record that is linked under another node tells anything of the transaction
-pub unlinked : (bs : List ℕ) (n : ℕ) (es : List (ℕ × ℕ)) (d : Deed) (t k : ℕ) (l : Line) → Seen bs n es → k < n → (from es k ≡ node t → ⊥)
-    → decoded (part bs k) ≡ Ok l → deed_told d t l ≡ false
-unlinked bs n es d t k l s lt apart e =
-    untold d t l (unequal l.transaction.0 t (λ h. apart (s.by k l lt e ∙ ap node h)))
+-- one of the first n records, whose line passes the test
+abbrev pub Telling : (Line → Bool) → List ℕ → ℕ → ℕ → Type 0
+Telling p bs n i = (i < n) × ((l : Line) × (decoded (part bs i) ≡ Ok l) × (p l ≡ true))
 
--- none of all records, so none in their lines
-pub none_of_all : (p : Line → Bool) (bs : List ℕ) (n : ℕ) → Readable bs n → NoneAmong p bs 0 n → some p (lines_of bs n) ≡ false
-none_of_all p bs zero good h = refl
-none_of_all p bs (suc n) good h =
-    let (l, e) = read_as_line (decoded (part bs n)) (good n (omega arith)) in
-    let step : n + 1 ≡ suc n = omega arith in
-    subst (λ k. some p (lines_of bs k) ≡ false) step
-    (none_more p bs n l e (none_of_all p bs n (λ k lt. good k (omega arith)) (λ k x le lt q. h k x le (omega arith) q)) (h n l (omega arith) (omega arith) e))
-
--- on by one link: the record that it leads to does not pass, and none between it and the next is linked under the node
-pub none_onward : (bs : List ℕ) (n : ℕ) (es : List (ℕ × ℕ)) (d : Deed) (t k next : ℕ) → Seen bs n es → k < n → Last es (node t) k next
-    → ((l : Line) → decoded (part bs k) ≡ Ok l → deed_told d t l ≡ false) → NoneAmong (deed_told d t) bs (suc k) n → NoneAmong (deed_told d t) bs next n
-none_onward bs n es d t k next s in' last here above = λ j l le lt e.
+-- a record that tells something of a transaction is linked under the transaction's node
+pub linked_there : (bs : List ℕ) (n : ℕ) (es : List (ℕ × ℕ)) (d : Deed) (t : ℕ) → Seen bs n es → (i : ℕ) → Telling (deed_told d t) bs n i → leaves es (node t) i ≡ true
+linked_there bs n es d t s i (lt, (l, is, tells)) =
     ⊎_elim
-    (λ (below : j < k). unlinked bs n es d t j l s lt (last.above j le below) e)
-    (λ (ge : k ≤ j). ⊎_elim
-    (λ (at : j < suc k). let same : j ≡ k = omega arith in here l (subst (λ m. decoded (part bs m) ≡ Ok l) same e))
-    (λ (past : suc k ≤ j). above j l past lt e) (order j (suc k)))
-    (order j k)
+    (λ (h : (eqb l.transaction.0 t ≡ true) × (l.transaction.0 ≡ t)). eq-eqb (from es i) (node t) (s.by i l lt is ∙ ap node h.1))
+    (λ (h : (eqb l.transaction.0 t ≡ false) × (l.transaction.0 ≡ t → ⊥)). let z : true ≡ false = sym tells ∙ untold d t l h.0 in absurd (cc))
+    (eqb_tells l.transaction.0 t)
+
+-- none of the first records tells it, so none of their lines does
+pub none_of_all : (p : Line → Bool) (bs : List ℕ) (n : ℕ) → Readable bs n → ((i : ℕ) → i < n → Telling p bs n i → ⊥) → some p (lines_of bs n) ≡ false
+none_of_all p bs n good none = go n (λ i lt. lt)
+  where
+    fails : (i : ℕ) (l : Line) → i < n → decoded (part bs i) ≡ Ok l → p l ≡ false
+    fails i l lt is = elim (cases_Bool (p l)) [ inl passes ↦ absurd (none i lt (lt, (l, is, passes))) | inr fails' ↦ fails' ]
+
+    go : (m : ℕ) → ((i : ℕ) → i < m → i < n) → some p (lines_of bs m) ≡ false
+    go zero low = refl
+    go (suc m) low =
+        let lt = low m (omega arith) in
+        let (l, e) = read_as_line (decoded (part bs m)) (good m lt) in
+        let step : m + 1 ≡ suc m = omega arith in
+        subst (λ k. some p (lines_of bs k) ≡ false) step (none_more p bs m l e (go m (λ i small. low i (omega arith))) (fails m l lt e))
 
 -- one record more is linked
 pub seen_more : (bs : List ℕ) (n : ℕ) (es : List (ℕ × ℕ)) (t : TxNo) → Seen bs n es → ((l : Line) → decoded (part bs n) ≡ Ok l → l.transaction ≡ t)

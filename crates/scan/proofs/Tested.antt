@@ -1,17 +1,18 @@
 -- The tests of a file's records, in their order, and of its ends. Assumes nothing.
-use Rattle.std.proofs.Common.{◌≡◌, ℕ, zero, suc, ◌+◌, ◌-◌, ◌<◌, ◌≤◌, Bool, true, false, cond, List, [], ◌∷◌, ◌++◌, length, is_ok, Some, None, Ok, Err, Result, sym, refl, ap, ◌∙◌, subst, ⊎_elim, arith, length-append}
+use Rattle.std.proofs.Common.{◌≡◌, ℕ, zero, suc, ◌+◌, ◌-◌, ◌<◌, ◌≤◌, Bool, true, false, cond, List, [], ◌∷◌, ◌++◌, length, is_ok, Some, None, Option, MatchOption, Ok, Err, Result, sym, refl, ap, ◌∙◌, subst, ⊎_elim, arith, length-append}
 use Rattle.std.specs.List.{slice_get}
 use Rattle.std.specs.Result.{result_ok}
 use Rattle.std.specs.Option.{option_to_list}
 use Rattle.std.proofs.str.Laws.{order}
 use Rattle.records.specs.declared.line.Line.{Line}
 use Rattle.records.specs.declared.fault.RecordFault.{RecordFault}
-use Rattle.records.specs.Format.{decoded, placed_at}
+use Rattle.records.specs.Format.{decoded}
 use Rattle.records.specs.Parts.{part}
 use Rattle.rules.specs.declared.judge_fault.JudgeFault.{JudgeFault}
 use Rattle.rules.specs.declared.judge_fault.JudgeFault.TheVariants.{OutOfPlace}
 use Rattle.rules.specs.Rules.{some, ends, in_place, after_record, next_record, scanned, unended}
 use Rattle.scan.specs.Scanning.{Readable, lines_of, Scanned, answered}
+use Rattle.scan.proofs.Scans.{read_as_line}
 
 module _ (bs : List ℕ) where
   pub none_scanned : Scanned bs 0
@@ -118,21 +119,26 @@ none_unended (x ∷ ls) all k h =
     ap (λ b. cond b (unended ls all (suc k)) (Some k)) (h 0 x (omega arith) refl)
     ∙ none_unended ls all (suc k) (λ j m lt r. h (suc j) m (omega arith) r)
 
-pub ended_more : (ls all : List Line) (i : ℕ) (l : Line) → EndedBelow ls all i → slice_get ls i ≡ Some l → some (ends l.transaction.0) all ≡ true → EndedBelow ls all (i + 1)
-ended_more ls all i l h e q = λ j m lt r.
-    ⊎_elim
-    (λ (below : j < i). h j m below r)
-    (λ (ge : i ≤ j).
-    let same : i ≡ j = omega arith in
-    let there : slice_get ls j ≡ Some l = subst (λ k. slice_get ls k ≡ Some l) same e in
-    let equal : l ≡ m = cc in
-    subst (λ y. some (ends y.transaction.0) all ≡ true) equal q)
-    (order j i)
+-- whether the transaction of record i has its end among the first n
+abbrev pub HasEnd : List ℕ → ℕ → Bool → ℕ → Type 0
+HasEnd bs n has i = (l : Line) → decoded (part bs i) ≡ Ok l → some (ends l.transaction.0) (lines_of bs n) ≡ has
 
--- a record without a bad field, in place
-pub passes : (i : ℕ) (ls : List Line) (r : Result Line RecordFault) (l : Line) → Ok l ≡ placed_at i r → true ≡ in_place ls l → Ok tt ≡ answered (after_record i ls r)
-passes i ls (Ok m) l e p =
-    let same : l ≡ m = cc in
-    let here : in_place ls m ≡ true = subst (λ y. in_place ls y ≡ true) same (sym p) in
-    ap (λ b. answered (cond b (Ok (ls ++ m ∷ [])) (Err (OutOfPlace i)))) (sym here)
-passes i ls (Err f) l e p = let z : ◌≡◌ {A = ℕ} 0 1 = cc in absurd (omega arith)
+ended_below : (bs : List ℕ) (n i : ℕ) → Readable bs n → i ≤ n → ((k : ℕ) → 0 ≤ k → k < i → HasEnd bs n true k) → EndedBelow (lines_of bs n) (lines_of bs n) i
+ended_below bs n i good few each = λ j l lt e.
+    let (m, is) = read_as_line (decoded (part bs j)) (good j (omega arith)) in
+    let there = nth_lines bs n j m good (omega arith) is in
+    let same : m ≡ l = cc in
+    subst (λ y. some (ends y.transaction.0) (lines_of bs n) ≡ true) same (each j (omega arith) lt m is)
+
+-- the first record whose transaction has no end is the one that the rules name
+pub first_open : (bs : List ℕ) (n : ℕ) (r : Option ℕ) → Readable bs n
+    → MatchOption r ((k : ℕ) → 0 ≤ k → k < n → HasEnd bs n true k) (λ i. (0 ≤ i) × (i < n) × HasEnd bs n false i × ((k : ℕ) → 0 ≤ k → k < i → HasEnd bs n true k))
+    → r ≡ unended (lines_of bs n) (lines_of bs n) 0
+first_open bs n None good all =
+    sym (none_unended (lines_of bs n) (lines_of bs n) 0 (ended_below bs n (length (lines_of bs n)) good (omega (arith, length_lines bs n good))
+    (λ k le lt. all k le (omega (arith, length_lines bs n good)))))
+first_open bs n (Some i) good (le, lt, here, before) =
+    let (l, is) = read_as_line (decoded (part bs i)) (good i lt) in
+    let at : i ≡ 0 + i = omega arith in
+    ap (λ k. Some k) at
+    ∙ sym (unended_at (lines_of bs n) (lines_of bs n) i 0 l (ended_below bs n i good (omega arith) before) (nth_lines bs n i l good lt is) (here l is))

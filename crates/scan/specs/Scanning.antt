@@ -7,8 +7,7 @@
 --     deed_card d                 the card of a line that tells the deed d: an end has card 0
 --     node t                      the node under which the records of transaction t are linked
 --     Seen bs n es                es has an edge from its transaction's node for each of the first n records
---     NoneAmong p bs i j         no record from place i up to place j passes the test p
-use Rattle.std.specs.Prelude.{◌≡◌, ℕ, zero, suc, ◌%◌, ◌<◌, ◌≤◌, Bool, true, false, List, [], ◌++◌, length, is_ok, Ok, Err, Result}
+use Rattle.std.specs.Prelude.{◌≡◌, ℕ, zero, suc, ◌%◌, ◌<◌, Bool, true, List, [], ◌++◌, length, is_ok, Ok, Err, Result}
 use Rattle.std.specs.Result.{result_ok}
 use Rattle.std.specs.Option.{option_to_list}
 use Rattle.records.specs.declared.line.Line.{Line}
@@ -51,6 +50,3 @@ node t = t % 2048
 pub record Seen (bs : List ℕ) (n : ℕ) (es : List (ℕ × ℕ)) : Type 0 where
   pub each : length es ≡ n
   pub by : (k : ℕ) (l : Line) → k < n → decoded (part bs k) ≡ Ok l → from es k ≡ node l.transaction.0
-
-abbrev pub NoneAmong : (Line → Bool) → List ℕ → ℕ → ℕ → Type 0
-NoneAmong p bs i j = (k : ℕ) (l : Line) → i ≤ k → k < j → decoded (part bs k) ≡ Ok l → p l ≡ false

@@ -3,8 +3,7 @@ ghost use Rattle.std.specs.Prelude.{◌≡◌};
 ghost use Rattle.rules.specs.Rules.{accepted};
 ghost use Rattle.scan.specs.Scanning.{answered};
 
-use super::scan::{first_unended, scan};
-use reach::Graph;
+use super::told::Told;
 use rules::{JudgeFault, whole_records};
 
 // Tests a file by the rules, in their order, given how many marks were lent.
@@ -15,10 +14,7 @@ pub fn accept(file: &[u8], marks: usize) -> Result<(), JudgeFault>
     if marks < count {
         return Err(JudgeFault::FewMarks);
     }
-    let mut seen = Graph::new();
-    scan(file, &mut seen)?;
-    match first_unended(file, &seen) {
-        Some(place) => Err(JudgeFault::NoEnd(place)),
-        None => Ok(()),
-    }
+    let told = Told::scan(file)?;
+    told.first_unended()
+        .map_or(Ok(()), |place| Err(JudgeFault::NoEnd(place)))
 }

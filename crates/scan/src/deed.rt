@@ -1,11 +1,7 @@
 // What one record tells.
-ghost use Rattle.std.specs.Prelude.{◌≡◌, ◌<◌, true, is_ok, Ok};
-ghost use Rattle.records.specs.declared.line.Line.{Line as OneLine};
-ghost use Rattle.records.specs.Format.{decoded};
-ghost use Rattle.records.specs.Parts.{records_in, part};
+ghost use Rattle.std.specs.Prelude.{◌≡◌};
 ghost use Rattle.scan.specs.Scanning.{deed_told, deed_card};
 
-use super::place::{card_at, line_at, transaction_at};
 use records::{Kind, Line};
 use stamps::{CardNo, TxNo};
 
@@ -21,8 +17,8 @@ pub(crate) enum Deed {
 }
 
 impl Deed {
-    // The card of a record that tells it.
-    fn card(self) -> CardNo
+    // The card of a record that tells it, by which other records are passed over unread.
+    pub(crate) fn card(self) -> CardNo
         ensures { result.0 ≡ deed_card self }
     {
         match self {
@@ -30,33 +26,16 @@ impl Deed {
             Deed::Read(card) | Deed::Written(card) => card,
         }
     }
-}
 
-// Whether a line tells it.
-fn tells(line: &Line, by: TxNo, deed: Deed) -> bool
-    ensures { result ≡ deed_told deed by.0 line.now }
-{
-    if line.transaction != by {
-        return false;
+    // Whether a line tells it of a transaction.
+    pub(crate) fn is_told(self, by: TxNo, line: &Line) -> bool
+        ensures { result ≡ deed_told self by.0 line.now }
+    {
+        line.transaction == by
+            && match self {
+                Deed::Ended => matches!(line.kind, Kind::Done | Kind::Gone),
+                Deed::Read(card) => line.kind == Kind::Read && line.card == card,
+                Deed::Written(card) => line.kind == Kind::Writ && line.card == card,
+            }
     }
-    match deed {
-        Deed::Ended => line.kind == Kind::Done || line.kind == Kind::Gone,
-        Deed::Read(card) => line.kind == Kind::Read && line.card == card,
-        Deed::Written(card) => line.kind == Kind::Writ && line.card == card,
-    }
-}
-
-// Whether a record that has no bad field tells it. A record of another transaction or of another card is passed over.
-pub(crate) fn tells_at(file: &[u8], place: usize, by: TxNo, deed: Deed) -> bool
-    requires within { place < records_in file.now }
-    requires good { is_ok (decoded (part file.now place)) ≡ true }
-    ensures { (l : OneLine) → decoded (part file.now place) ≡ Ok l → result ≡ deed_told deed by.0 l }
-{
-    if transaction_at(file, place) != by {
-        return false;
-    }
-    if card_at(file, place).0 != deed.card().0 {
-        return false;
-    }
-    tells(&line_at(file, place), by, deed)
 }

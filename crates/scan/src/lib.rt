@@ -3,8 +3,6 @@
 
 mod acceptance;
 mod deed;
-mod place;
-mod scan;
 mod told;
 
 pub use acceptance::accept;

@@ -1,0 +1,8 @@
+use Rattle.std.proofs.Common.{◌≡◌, length}
+use Rattle.scan.specs.Scanning.{Scanned}
+use Rattle.scan.proofs.told.Told.scan.Given as goal
+
+abbrev pub invariant-loop-bytes : goal.invariant-loop-bytes
+invariant-loop-bytes l =
+    (goal.iterator-loop-bytes).can_next l.bytes-iterator × (goal.iterator-loop-bytes).is_finite l.bytes-iterator
+    × (l.told.file.now ≡ l.file) × (l.told.count ≡ length l.yielded) × Scanned l.file l.told.count

@@ -1,0 +1,80 @@
+// The rules of a file, record by record.
+ghost use Rattle.std.specs.Prelude.{◌≡◌, suc, ◌<◌, ◌≤◌, OnOk, MatchResult, Err};
+ghost use Rattle.records.specs.declared.kind.Kind.TheVariants.{Read, Writ};
+ghost use Rattle.records.specs.Format.{decoded};
+ghost use Rattle.records.specs.Parts.{records_in, part};
+ghost use Rattle.rules.specs.Rules.{after_record, kind_in_place, in_place, scanned};
+ghost use Rattle.scan.specs.Scanning.{lines_of, Scanned, answered};
+
+use super::Told;
+use super::deeds::node_of;
+use crate::deed::Deed;
+use reach::Graph;
+use records::{Kind, Line, RecordReader};
+use rules::JudgeFault;
+
+impl<'a> Told<'a> {
+    // Tests the records of a file, in their order, and takes them in.
+    pub(crate) fn scan(file: &'a [u8]) -> Result<Told<'a>, JudgeFault>
+        requires { records_in file.now ≤ 2048 }
+        ensures { MatchResult result (λ told. (told.file.now ≡ file.now) × (told.count ≡ records_in file.now) × Scanned file.now (records_in file.now))
+            (λ fault. answered (scanned file.now (records_in file.now)) ≡ Err fault) }
+    {
+        let mut told = Told {
+            file,
+            count: 0,
+            links: Graph::new(),
+        };
+        for bytes in RecordReader::new(file) {
+            told.take(bytes)?;
+        }
+        Ok(told)
+    }
+
+    // Tests one more record, first its fields, then whether it is in place, and takes it in.
+    fn take(&mut self, bytes: &[u8]) -> Result<(), JudgeFault>
+        requires within { self.old.count < records_in self.old.file.now }
+        requires next { bytes.now ≡ part self.old.file.now self.old.count }
+        ensures answer { result ≡ answered (after_record self.old.count (lines_of self.old.file.now self.old.count) (decoded bytes.now)) }
+        ensures onward { OnOk result (self.new.count ≡ suc self.old.count) }
+        ensures same { self.new.file.now ≡ self.old.file.now }
+    {
+        let place = self.count;
+        let line = Line::decode_at(bytes, place)?;
+        if !self.is_in_place(&line) {
+            return Err(JudgeFault::OutOfPlace(place));
+        }
+        let _ = self.links.add(node_of(line.transaction), place);
+        self.count = place + 1;
+        Ok(())
+    }
+
+    // Whether a line may stand behind the records that were taken in.
+    fn is_in_place(&self, line: &Line) -> bool
+        ensures { result ≡ in_place (lines_of self.now.file.now self.now.count) line.now }
+    {
+        !self.tells(line.transaction, Deed::Ended)
+            && match line.kind {
+                Kind::Read => self.is_read_in_place(line),
+                Kind::Writ => self.is_writ_in_place(line),
+                Kind::Done | Kind::Gone => true,
+            }
+    }
+
+    // Whether a READ may stand there, as far as its transaction has not ended.
+    fn is_read_in_place(&self, line: &Line) -> bool
+        ensures { result ≡ kind_in_place Read (lines_of self.now.file.now self.now.count) line.now }
+    {
+        !self.tells(line.transaction, Deed::Read(line.card))
+            && line.writer != line.transaction
+            && (line.writer.0 == 0 || self.tells(line.writer, Deed::Written(line.card)))
+    }
+
+    // The same of a WRIT.
+    fn is_writ_in_place(&self, line: &Line) -> bool
+        ensures { result ≡ kind_in_place Writ (lines_of self.now.file.now self.now.count) line.now }
+    {
+        self.tells(line.transaction, Deed::Read(line.card))
+            && !self.tells(line.transaction, Deed::Written(line.card))
+    }
+}

@@ -2,7 +2,9 @@ use crate::script::{EVENING, MORNING, OPENS};
 use catalogue::BooksMemory;
 use sessions::{Answer, Command, run};
 use shelf::Shelf;
-use shelves::{PoolMemory, PoolShelf, RowMemory, RowShelf, Size, SplitShelf};
+use shelves::{
+    Drawers, PlacedShelf, PoolDrawer, PoolShelf, RowDrawers, RowShelf, Size, SplitShelf,
+};
 use stamps::{CardNo, Stamp};
 use std::alloc::{AllocError, Global};
 use std::test::Fail;
@@ -120,24 +122,23 @@ fn goes<S: Shelf>(heap: Global, shelf: &mut S) -> Result<bool, AllocError> {
     Ok(right)
 }
 
-fn row(heap: Global, cards: u32) -> Result<RowShelf, AllocError> {
+// A shelf of so many cards, with these places in each drawer and three counts in a stamp.
+fn placed<D: Drawers>(heap: Global, cards: u32, places: u32) -> Result<PlacedShelf<D>, AllocError> {
     let size = Size {
         cards,
         width: 3,
-        places: 4,
+        places,
     };
-    let memory = RowMemory::reserve(heap, size.cards, size.places)?;
-    Ok(RowShelf::new(memory, size))
+    let memory = D::reserve(heap, cards, places)?;
+    Ok(PlacedShelf::new(memory, size))
+}
+
+fn row(heap: Global, cards: u32) -> Result<RowShelf, AllocError> {
+    placed::<RowDrawers>(heap, cards, 4)
 }
 
 fn pool(heap: Global, cards: u32) -> Result<PoolShelf, AllocError> {
-    let size = Size {
-        cards,
-        width: 3,
-        places: 9,
-    };
-    let memory = PoolMemory::reserve(heap, size.cards, size.places)?;
-    Ok(PoolShelf::new(memory, size))
+    placed::<PoolDrawer>(heap, cards, 9)
 }
 
 #[test]

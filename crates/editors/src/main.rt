@@ -51,12 +51,12 @@ fn find_shelf(rt: &HostRuntime, lines: &mut Lines<'_>) -> io::Result<Option<Made
             println!(rt; "{text} = not understood")?;
             continue;
         };
-        let (shelf, fits) = make_shelf(rt.alloc(), make)?;
-        match fits {
+        let made = make_shelf(rt.alloc(), make)?;
+        match made.fits {
             Ok(()) => println!(rt; "{text} = ok")?,
             Err(refusal) => println!(rt; "{text} = REFUSED {}", refusal.number())?,
         }
-        return Ok(Some(shelf));
+        return Ok(Some(made.shelf));
     }
     Ok(None)
 }

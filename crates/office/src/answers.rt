@@ -1,8 +1,9 @@
 // What a session answers to each command.
 use crate::command::{Command, Entry, Make, Question};
-use scripts::Counts;
+use scripts::{Counts, Fitted, placed_shelf};
 use shelves::{
-    CheckRefusal, PoolMemory, PoolShelf, PutRefusal, RowMemory, RowShelf, Shelf, Size, SplitShelf,
+    CheckRefusal, Drawers, PlacedShelf, PoolDrawer, PoolShelf, PutRefusal, RowDrawers, RowShelf,
+    Shelf, Size, SplitShelf,
 };
 use stamps::{CardNo, VersionNo};
 use std::alloc::{AllocError, Global};
@@ -44,38 +45,23 @@ fn made(
     held: &mut Option<Held>,
     make: Make,
 ) -> Result<Result<(), CheckRefusal>, AllocError> {
-    let (shelf, fits) = match make {
-        Make::Row(size) => {
-            let (shelf, fits) = row(heap, size)?;
-            (Held::Row(shelf), fits)
-        }
-        Make::Pool(size) => {
-            let (shelf, fits) = pool(heap, size)?;
-            (Held::Pool(shelf), fits)
-        }
+    let made = match make {
+        Make::Row(size) => placed::<RowDrawers>(heap, size)?.map(Held::Row),
+        Make::Pool(size) => placed::<PoolDrawer>(heap, size)?.map(Held::Pool),
         Make::Split(left, right) => {
-            let (left, fits) = row(heap, left)?;
-            let (right, fits_too) = pool(heap, right)?;
-            (
-                Held::Split(SplitShelf::new(left, right)),
-                fits.and(fits_too),
-            )
+            let left = placed::<RowDrawers>(heap, left)?;
+            let right = placed::<PoolDrawer>(heap, right)?;
+            left.split(right).map(Held::Split)
         }
     };
+    let Fitted { shelf, fits } = made;
     *held = Some(shelf);
     Ok(fits)
 }
 
-fn row(heap: Global, size: Size) -> Result<(RowShelf, Result<(), CheckRefusal>), AllocError> {
-    let memory = RowMemory::reserve(heap, size.cards, size.places)?;
-    let fits = RowShelf::check(&memory, size);
-    Ok((RowShelf::new(memory, size), fits))
-}
-
-fn pool(heap: Global, size: Size) -> Result<(PoolShelf, Result<(), CheckRefusal>), AllocError> {
-    let memory = PoolMemory::reserve(heap, size.cards, size.places)?;
-    let fits = PoolShelf::check(&memory, size);
-    Ok((PoolShelf::new(memory, size), fits))
+fn placed<D: Drawers>(heap: Global, size: Size) -> Result<Fitted<PlacedShelf<D>>, AllocError> {
+    let memory = D::reserve(heap, size.cards, size.places)?;
+    Ok(placed_shelf(memory, size))
 }
 
 // Prints what a shelf answers.

@@ -1,8 +1,10 @@
-// What the programs that carry out a script share: the size of a shelf in words, and how the counts of a stamp are printed.
+// What the programs that carry out a script share: the size of a shelf in words, its making, and how the counts of a stamp are printed.
 #![tactic(auto)]
 
 pub mod counts;
+pub mod fitting;
 pub mod sizes;
 
 pub use counts::Counts;
+pub use fitting::{Fitted, placed_shelf};
 pub use sizes::size_of;

@@ -3,11 +3,11 @@ ghost use Rattle.std.specs.Prelude.{◌<◌};
 
 use super::desk::Desk;
 use super::dice::Dice;
-use super::makes::{Work, on_pool, on_row, on_split};
+use super::makes::{Work, on_drawers, on_split};
 use books::Slip;
 use catalogue::{BooksMemory, Catalogue};
 use shelf::Shelf;
-use shelves::Size;
+use shelves::{PoolDrawer, RowDrawers, Size};
 use stamps::{CardNo, Value};
 use std::alloc::{AllocError, Global};
 
@@ -236,12 +236,12 @@ impl Work for EditingWork {
 // Work on a row, a pool and a split of two pools: its checksum, 0 where memory is wanting.
 #[unsafe(no_mangle)]
 pub extern "C" fn workload_editing_row(heap: Global, work: &EditingWork) -> u64 {
-    on_row(heap, work).unwrap_or(0)
+    on_drawers::<RowDrawers, _>(heap, work).unwrap_or(0)
 }
 
 #[unsafe(no_mangle)]
 pub extern "C" fn workload_editing_pool(heap: Global, work: &EditingWork) -> u64 {
-    on_pool(heap, work).unwrap_or(0)
+    on_drawers::<PoolDrawer, _>(heap, work).unwrap_or(0)
 }
 
 #[unsafe(no_mangle)]

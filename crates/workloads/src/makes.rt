@@ -1,7 +1,7 @@
 // Work on every make of shelf.
 
 use shelf::Shelf;
-use shelves::{PoolMemory, PoolShelf, RowMemory, RowShelf, Size, SplitShelf};
+use shelves::{Drawers, PlacedShelf, PoolDrawer, Size, SplitShelf};
 use std::alloc::{AllocError, Global};
 
 // A piece of work, done on a shelf of the size that it asks for.
@@ -12,14 +12,10 @@ pub(crate) trait Work {
     fn work_on<S: Shelf>(&self, heap: Global, shelf: &mut S) -> Result<u64, AllocError>;
 }
 
-pub(crate) fn on_row<W: Work>(heap: Global, work: &W) -> Result<u64, AllocError> {
-    let size = work.size();
-    let memory = RowMemory::reserve(heap, size.cards, size.places)?;
-    work.work_on(heap, &mut RowShelf::new(memory, size))
-}
-
-pub(crate) fn on_pool<W: Work>(heap: Global, work: &W) -> Result<u64, AllocError> {
-    work.work_on(heap, &mut pool(heap, work.size())?)
+// On a shelf over drawers.
+pub(crate) fn on_drawers<D: Drawers, W: Work>(heap: Global, work: &W) -> Result<u64, AllocError> {
+    let mut shelf = placed::<D>(heap, work.size())?;
+    work.work_on(heap, &mut shelf)
 }
 
 // A split of two pools, each with half of the cards and half of the places.
@@ -30,11 +26,12 @@ pub(crate) fn on_split<W: Work>(heap: Global, work: &W) -> Result<u64, AllocErro
         width: size.width,
         places: size.places / 2,
     };
-    let mut split = SplitShelf::new(pool(heap, half)?, pool(heap, half)?);
-    work.work_on(heap, &mut split)
+    let left = placed::<PoolDrawer>(heap, half)?;
+    let right = placed::<PoolDrawer>(heap, half)?;
+    work.work_on(heap, &mut SplitShelf::new(left, right))
 }
 
-fn pool(heap: Global, size: Size) -> Result<PoolShelf, AllocError> {
-    let memory = PoolMemory::reserve(heap, size.cards, size.places)?;
-    Ok(PoolShelf::new(memory, size))
+fn placed<D: Drawers>(heap: Global, size: Size) -> Result<PlacedShelf<D>, AllocError> {
+    let memory = D::reserve(heap, size.cards, size.places)?;
+    Ok(PlacedShelf::new(memory, size))
 }

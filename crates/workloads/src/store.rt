@@ -2,8 +2,8 @@
 ghost use Rattle.std.specs.Prelude.{◌<◌};
 
 use super::dice::Dice;
-use super::makes::{Work, on_pool, on_row, on_split};
-use shelves::{Shelf, Size};
+use super::makes::{Work, on_drawers, on_split};
+use shelves::{PoolDrawer, RowDrawers, Shelf, Size};
 use stamps::{CardNo, TxNo, Value, VersionNo};
 use std::alloc::{AllocError, Global};
 
@@ -90,12 +90,12 @@ impl Work for ShelfWork {
 // Work on a row, a pool and a split of two pools: its checksum, 0 where memory is wanting.
 #[unsafe(no_mangle)]
 pub extern "C" fn workload_row(heap: Global, work: &ShelfWork) -> u64 {
-    on_row(heap, work).unwrap_or(0)
+    on_drawers::<RowDrawers, _>(heap, work).unwrap_or(0)
 }
 
 #[unsafe(no_mangle)]
 pub extern "C" fn workload_pool(heap: Global, work: &ShelfWork) -> u64 {
-    on_pool(heap, work).unwrap_or(0)
+    on_drawers::<PoolDrawer, _>(heap, work).unwrap_or(0)
 }
 
 #[unsafe(no_mangle)]

@@ -2,8 +2,8 @@
 use crate::command::{Command, Entry, Make, Question};
 use scripts::{Counts, Fitted, placed_shelf};
 use shelves::{
-    CheckRefusal, Drawers, PlacedShelf, PoolDrawer, PoolShelf, PutRefusal, RowDrawers, RowShelf,
-    Shelf, Size, SplitShelf,
+    Drawers, PlacedShelf, PoolDrawer, PoolShelf, PutRefusal, RowDrawers, RowShelf, Shelf, Size,
+    SplitShelf,
 };
 use stamps::{CardNo, VersionNo};
 use std::alloc::{AllocError, Global};
@@ -26,10 +26,14 @@ pub fn answer(
 ) -> io::Result<()> {
     print!(rt; "{line} = ")?;
     match command {
-        Command::Shelf(make) => match made(rt.alloc(), held, make)? {
-            Ok(()) => println!(rt; "ok"),
-            Err(refusal) => println!(rt; "REFUSED {}", refusal.number()),
-        },
+        Command::Shelf(make) => {
+            let Fitted { shelf, fits } = made(rt.alloc(), make)?;
+            *held = Some(shelf);
+            match fits {
+                Ok(()) => println!(rt; "ok"),
+                Err(refusal) => println!(rt; "REFUSED {}", refusal.number()),
+            }
+        }
         Command::Ask(question) => match held {
             None => println!(rt; "no shelf"),
             Some(Held::Row(shelf)) => ask(rt, shelf, question),
@@ -39,13 +43,9 @@ pub fn answer(
     }
 }
 
-// Makes a shelf, and says whether it fitted; the shelf of no cards is held if not.
-fn made(
-    heap: Global,
-    held: &mut Option<Held>,
-    make: Make,
-) -> Result<Result<(), CheckRefusal>, AllocError> {
-    let made = match make {
+// Makes a shelf, one of no cards where the size does not fit.
+fn made(heap: Global, make: Make) -> Result<Fitted<Held>, AllocError> {
+    Ok(match make {
         Make::Row(size) => placed::<RowDrawers>(heap, size)?.map(Held::Row),
         Make::Pool(size) => placed::<PoolDrawer>(heap, size)?.map(Held::Pool),
         Make::Split(left, right) => {
@@ -53,10 +53,7 @@ fn made(
             let right = placed::<PoolDrawer>(heap, right)?;
             left.split(right).map(Held::Split)
         }
-    };
-    let Fitted { shelf, fits } = made;
-    *held = Some(shelf);
-    Ok(fits)
+    })
 }
 
 fn placed<D: Drawers>(heap: Global, size: Size) -> Result<Fitted<PlacedShelf<D>>, AllocError> {

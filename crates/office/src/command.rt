@@ -5,7 +5,7 @@ use stamps::{CardNo, TxNo, Value, VersionNo};
 use std::alloc::{AllocError, Global};
 use std::num::ParseIntError;
 
-// Which shelf to make.
+// Which shelf to make. The editors' program has one make more, so this enum is not shared with it.
 #[derive(Clone, Copy)]
 pub enum Make {
     Row(Size),

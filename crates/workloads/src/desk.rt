@@ -1,4 +1,4 @@
-// An editors' desk: the catalogue, and a checksum of all that it answers.
+// An editors' desk: the catalogue, the shelf that it was set up with, and a checksum of all that is answered.
 use books::{NotCommitted, Slip};
 use catalogue::Catalogue;
 use shelf::Shelf;
@@ -6,18 +6,19 @@ use stamps::{CardNo, Value};
 use transactions::Refusal;
 
 #[derive(Drop)]
-pub struct Desk {
+pub struct Desk<'a, S> {
     pub catalogue: Catalogue,
+    pub shelf: &'a mut S,
     pub sum: u64,
 }
 
-impl Desk {
+impl<S: Shelf> Desk<'_, S> {
     fn add(&mut self, n: u64) {
         self.sum = self.sum.wrapping_mul(31).wrapping_add(n);
     }
 
-    pub fn read<S: Shelf>(&mut self, shelf: &S, slip: &Slip, card: u32) {
-        match self.catalogue.read(shelf, slip, CardNo(card)) {
+    pub fn read(&mut self, slip: &Slip, card: u32) {
+        match self.catalogue.read(&*self.shelf, slip, CardNo(card)) {
             Ok(reading) => self.add(
                 u64::from(reading.version.0)
                     .wrapping_add(reading.value.first)
@@ -28,8 +29,8 @@ impl Desk {
     }
 
     // Commits a transaction, and gives it up where it is refused.
-    pub fn commit<S: Shelf>(&mut self, shelf: &mut S, slip: Slip) {
-        match self.catalogue.commit(shelf, slip) {
+    pub fn commit(&mut self, slip: Slip) {
+        match self.catalogue.commit(self.shelf, slip) {
             Ok(()) => self.add(1),
             Err(NotCommitted::Conflict) => self.add(u64::from(Refusal::Conflict.number())),
             Err(NotCommitted::HandedBack(slip, refusal)) => {
@@ -40,22 +41,16 @@ impl Desk {
     }
 
     // A whole transaction: it reads the cards, drafts some of them, and commits.
-    pub fn transact<S: Shelf>(
-        &mut self,
-        shelf: &mut S,
-        reads: &[u32],
-        drafts: &[u32],
-        value: Value,
-    ) {
+    pub fn transact(&mut self, reads: &[u32], drafts: &[u32], value: Value) {
         let Ok(slip) = self.catalogue.open() else {
             return;
         };
         for card in reads {
-            self.read(shelf, &slip, *card);
+            self.read(&slip, *card);
         }
         for card in drafts {
             let _ = self.catalogue.draft(&slip, CardNo(*card), value);
         }
-        self.commit(shelf, slip);
+        self.commit(slip);
     }
 }

@@ -60,77 +60,93 @@ fn words(i: u32, mark: u64) -> Value {
     }
 }
 
-// Two cards that differ.
-fn pair(dice: &mut Dice, cards: u32) -> [u32; 2]
-    requires { 1 < cards }
-{
-    let one = dice.below(cards);
-    let step = 1 + dice.below(cards - 1);
-    [
-        one,
-        ((u64::from(one) + u64::from(step)) % u64::from(cards)) as u32,
-    ]
+// So many cards, two or more.
+#[derive(Clone, Copy)]
+struct Cards {
+    count: u32,
+    ghost several: { 1 < count },
 }
 
-fn fill<S: Shelf>(desk: &mut Desk, shelf: &mut S, work: &EditingWork)
-    requires { 0 < work.now.cards }
-{
-    for i in 0..work.depth.wrapping_mul(work.cards) {
-        let card = [i % work.cards];
-        desk.transact(shelf, &card, &card, words(i, 4));
+impl Cards {
+    fn of(count: u32) -> Option<Cards> {
+        if count < 2 {
+            return None;
+        }
+        Some(Cards { count })
+    }
+
+    // The first four of them.
+    fn hot(self) -> Cards {
+        Cards {
+            count: self.count.min(4),
+        }
+    }
+
+    fn one(self, dice: &mut Dice) -> u32 {
+        dice.below(self.count)
+    }
+
+    // Two that differ.
+    fn pair(self, dice: &mut Dice) -> [u32; 2] {
+        let one = self.one(dice);
+        let step = 1 + dice.below(self.count - 1);
+        [
+            one,
+            ((u64::from(one) + u64::from(step)) % u64::from(self.count)) as u32,
+        ]
     }
 }
 
-fn reads<S: Shelf>(desk: &mut Desk, shelf: &mut S, work: &EditingWork)
-    requires { 0 < work.now.cards }
-{
+fn fill<S: Shelf>(desk: &mut Desk<'_, S>, cards: Cards, depth: u32) {
+    for i in 0..depth.wrapping_mul(cards.count) {
+        let card = [i % cards.count];
+        desk.transact(&card, &card, words(i, 4));
+    }
+}
+
+fn reads<S: Shelf>(desk: &mut Desk<'_, S>, cards: Cards, transactions: u32) {
     let mut dice = Dice::new(3);
-    for _ in 0..work.transactions {
-        let cards = [
-            dice.below(work.cards),
-            dice.below(work.cards),
-            dice.below(work.cards),
-            dice.below(work.cards),
+    for _ in 0..transactions {
+        let read = [
+            cards.one(&mut dice),
+            cards.one(&mut dice),
+            cards.one(&mut dice),
+            cards.one(&mut dice),
         ];
-        desk.transact(shelf, &cards, &[], words(0, 0));
+        desk.transact(&read, &[], words(0, 0));
     }
 }
 
-fn drafts<S: Shelf>(desk: &mut Desk, shelf: &mut S, work: &EditingWork)
-    requires { 1 < work.now.cards }
-{
+fn drafts<S: Shelf>(desk: &mut Desk<'_, S>, cards: Cards, transactions: u32) {
     let mut dice = Dice::new(4);
-    for i in 0..work.transactions {
-        let cards = pair(&mut dice, work.cards);
-        desk.transact(shelf, &cards, &cards, words(i, 1));
+    for i in 0..transactions {
+        let pair = cards.pair(&mut dice);
+        desk.transact(&pair, &pair, words(i, 1));
     }
 }
 
 // Reads two cards and drafts the first of them.
-fn begin<S: Shelf>(desk: &mut Desk, shelf: &S, slip: &Slip, cards: [u32; 2], value: Value) {
+fn begin<S: Shelf>(desk: &mut Desk<'_, S>, slip: &Slip, cards: [u32; 2], value: Value) {
     for card in cards {
-        desk.read(shelf, slip, card);
+        desk.read(slip, card);
     }
     let _ = desk.catalogue.draft(slip, CardNo(cards[0]), value);
 }
 
-fn hot<S: Shelf>(heap: Global, desk: &mut Desk, shelf: &mut S, work: &EditingWork)
-    requires { 1 < work.now.cards }
-{
+fn hot<S: Shelf>(heap: Global, desk: &mut Desk<'_, S>, cards: Cards, work: &EditingWork) {
     let mut dice = Dice::new(5);
-    let hot = work.cards.min(4);
     let mut slips = Vec::new(heap);
     for i in 0..work.transactions {
         if slips.reserve(1).is_err() {
             break;
         }
         if let Ok(slip) = desk.catalogue.open() {
-            begin(desk, shelf, &slip, pair(&mut dice, hot), words(i, 2));
+            begin(desk, &slip, cards.hot().pair(&mut dice), words(i, 2));
             slips.push_reserved(slip);
         }
         if !slips.is_empty() && slips.len() >= work.open as usize {
             let place = dice.below(slips.len().min(PLACES) as u32) as usize;
-            desk.commit(shelf, slips.swap_remove(place));
+            desk.commit(slips.swap_remove(place));
         }
     }
     desk.catalogue.close();
@@ -147,7 +163,7 @@ struct LongReader {
 }
 
 impl LongReader {
-    fn begin(desk: &mut Desk) -> LongReader {
+    fn begin<S: Shelf>(desk: &mut Desk<'_, S>) -> LongReader {
         LongReader {
             slip: desk.catalogue.open().ok(),
             next: 0,
@@ -155,14 +171,12 @@ impl LongReader {
     }
 
     // Reads the next card; after the last it commits and begins anew.
-    fn read_on<S: Shelf>(self, desk: &mut Desk, shelf: &mut S, cards: u32) -> LongReader
-        requires { 1 < cards }
-    {
+    fn read_on<S: Shelf>(self, desk: &mut Desk<'_, S>, cards: Cards) -> LongReader {
         let LongReader { slip, next } = self;
         if let Some(slip) = &slip {
-            desk.read(shelf, slip, next);
+            desk.read(slip, next);
         }
-        if next < cards - 1 {
+        if next < cards.count - 1 {
             let next = next + 1;
             return LongReader { slip, next };
         }
@@ -172,11 +186,11 @@ impl LongReader {
                 next: 0,
             };
         };
-        desk.commit(shelf, slip);
+        desk.commit(slip);
         LongReader::begin(desk)
     }
 
-    fn end(self, desk: &mut Desk) {
+    fn end<S: Shelf>(self, desk: &mut Desk<'_, S>) {
         let LongReader { slip, next: _ } = self;
         if let Some(slip) = slip {
             let _ = desk.catalogue.abandon(slip);
@@ -184,16 +198,14 @@ impl LongReader {
     }
 }
 
-fn long_reader<S: Shelf>(desk: &mut Desk, shelf: &mut S, work: &EditingWork)
-    requires { 1 < work.now.cards }
-{
+fn long_reader<S: Shelf>(desk: &mut Desk<'_, S>, cards: Cards, transactions: u32) {
     let mut dice = Dice::new(6);
     let mut reader = LongReader::begin(desk);
-    for i in 0..work.transactions {
-        let cards = pair(&mut dice, work.cards);
-        desk.transact(shelf, &cards, &cards, words(i, 3));
+    for i in 0..transactions {
+        let pair = cards.pair(&mut dice);
+        desk.transact(&pair, &pair, words(i, 3));
         if i % 16 == 0 {
-            reader = reader.read_on(desk, shelf, work.cards);
+            reader = reader.read_on(desk, cards);
         }
     }
     desk.catalogue.close();
@@ -215,19 +227,24 @@ impl Work for EditingWork {
             + u64::from(self.depth.wrapping_mul(self.cards)) * 3
             + 100;
         let memory = BooksMemory::reserve(heap, PLACES, self.cards, lines as usize)?;
-        let mut desk = Desk {
-            catalogue: Catalogue::new(memory),
-            sum: 0,
+        let mut catalogue = Catalogue::new(memory);
+        let Some(cards) = Cards::of(self.cards) else {
+            return Ok(0);
         };
-        if self.cards < 2 || desk.catalogue.set_up(shelf).is_err() {
+        if catalogue.set_up(&*shelf).is_err() {
             return Ok(0);
         }
-        fill(&mut desk, shelf, self);
+        let mut desk = Desk {
+            catalogue,
+            shelf,
+            sum: 0,
+        };
+        fill(&mut desk, cards, self.depth);
         match Kind::from(self.kind) {
-            Kind::Reads => reads(&mut desk, shelf, self),
-            Kind::Drafts => drafts(&mut desk, shelf, self),
-            Kind::Hot => hot(heap, &mut desk, shelf, self),
-            Kind::LongReader => long_reader(&mut desk, shelf, self),
+            Kind::Reads => reads(&mut desk, cards, self.transactions),
+            Kind::Drafts => drafts(&mut desk, cards, self.transactions),
+            Kind::Hot => hot(heap, &mut desk, cards, self),
+            Kind::LongReader => long_reader(&mut desk, cards, self.transactions),
         }
         Ok(desk.sum)
     }

@@ -13,7 +13,10 @@ pub(crate) trait Work {
 }
 
 // On a shelf over drawers.
-pub(crate) fn on_drawers<D: Drawers, W: Work>(heap: Global, work: &W) -> Result<u64, AllocError> {
+pub(crate) fn on_drawers<D: Drawers + Drop, W: Work>(
+    heap: Global,
+    work: &W,
+) -> Result<u64, AllocError> {
     let mut shelf = placed::<D>(heap, work.size())?;
     work.work_on(heap, &mut shelf)
 }

@@ -17,8 +17,7 @@ pub fn index<W: Listing>(file: &[u8]) -> ArrayVec<Entry, PLACES>
     ensures indexed { records_in file.now ≤ 2048 → Indexed file.now (records_in file.now) result.items }
 {
     let mut register = Register::<W>::new();
-    let mut reader = RecordReader::new(file);
-    while let Some(part) = reader.next() {
+    for part in RecordReader::new(file) {
         if register.is_full() {
             return register.into_entries();
         }

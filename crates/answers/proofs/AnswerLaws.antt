@@ -6,7 +6,7 @@ use Rattle.reach.specs.Paths.{Marked}
 use Rattle.records.specs.declared.kind.Kind.TheVariants.{Read, Writ}
 use Rattle.records.specs.declared.line.Line.{Line}
 use Rattle.digest.specs.declared.entry.Entry.{Entry}
-use Rattle.answers.specs.declared.dependences.Towards.TheVariants.{Writers}
+use Rattle.answers.specs.Questions.{Towards}
 use Rattle.rules.specs.Rules.{is_read, is_writ}
 use Rattle.digest.specs.Entries.{at, newer, Sound}
 use Rattle.answers.specs.Questions.{some_below, marked, outdated, stale, steps, Owner, Snapshot, Snapshots}
@@ -63,7 +63,7 @@ stale_hit es ms i j n =
     some_hit _ (length es) i n.reader (and_from _ _ (and_from _ _ (ap is_read n.reads) (eq-eqb _ _ refl)) out)
 
 module _ (ls : List Line) (es : List Entry) (f : Facts ls es) (s : Sound es) where
-  snapshot_good : ((o : ℕ) → o < length es → (at es o).owner ≡ o → Snapshot es (steps Writers es (length es)) (length es) o false) → ConsistentSnapshots (history_of ls)
+  snapshot_good : ((o : ℕ) → o < length es → (at es o).owner ≡ o → Snapshot es (steps Towards.Writers es (length es)) (length es) o false) → ConsistentSnapshots (history_of ls)
   snapshot_good all t u x k n read dep wrote =
       let (i, v) = reads_entry ls es f s t x k read in
       let (j, e, w) = writes_entry ls es f s u x n wrote in
@@ -84,7 +84,7 @@ module _ (ls : List Line) (es : List Entry) (f : Facts ls es) (s : Sound es) whe
         | inr fine ↦ fine
       ]
 
-  snapshot_bad : (o : ℕ) → Snapshot es (steps Writers es (length es)) (length es) o true → ConsistentSnapshots (history_of ls) → ⊥
+  snapshot_bad : (o : ℕ) → Snapshot es (steps Towards.Writers es (length es)) (length es) o true → ConsistentSnapshots (history_of ls) → ⊥
   snapshot_bad o snap all =
       let (i, j, own, n) = stale_found es snap.marks o snap.tells in
       let path = snap.reached.sound (at es j).owner n.marked in
@@ -96,6 +96,6 @@ module _ (ls : List Line) (es : List Entry) (f : Facts ls es) (s : Sound es) whe
       let old = all (at es i).transaction.0 (at es j).transaction.0 (at es i).card.0 (at es i).version (suc j) read dep wrote in
       omega (arith, n.newer, f.writ j n.writer n.writes)
 
-  pub snapshots_decide : (r : Bool) → Snapshots es (steps Writers es (length es)) (length es) (length es) r → Decides r (ConsistentSnapshots (history_of ls))
+  pub snapshots_decide : (r : Bool) → Snapshots es (steps Towards.Writers es (length es)) (length es) (length es) r → Decides r (ConsistentSnapshots (history_of ls))
   snapshots_decide true h = ((λ e. snapshot_good h), λ p. refl)
   snapshots_decide false (o, own, snap) = ((λ e. absurd (both_ways false refl e)), λ p. absurd (snapshot_bad o snap p))

@@ -1,35 +1,35 @@
 -- The places of the DONEs, step by step, and the steps of a graph.
-use Rattle.std.proofs.Common.{◌≡◌, ℕ, zero, suc, ◌+◌, ◌-◌, ◌<◌, ◌≤◌, Bool, true, false, cond, ◌&&◌, eqb, List, [], ◌∷◌, ◌++◌, length, get_or, set, replicate, sym, refl, ap, ◌∙◌, inl, inr, add-one, arith, get_or-set_other, get_or-set_same}
+use Rattle.std.proofs.Common.{◌≡◌, ℕ, zero, suc, ◌+◌, ◌-◌, ◌<◌, ◌≤◌, Bool, true, false, cond, not, ◌&&◌, Option, Some, None, is_some, List, [], ◌∷◌, ◌++◌, length, get_or, set, replicate, sym, refl, ap, ◌∙◌, inl, inr, add-one, arith, get_or-set_other, get_or-set_same}
 use Rattle.std.proofs.lemmas.List.{get_or-replicate, length-append}
 use Rattle.std.proofs.lemmas.Bool.Decides.{nat_tests}
 use Rattle.std.proofs.lemmas.Bool.{cases_eq}
 use Rattle.reach.specs.declared.graph.Graph.{Graph}
 use Rattle.reach.specs.Paths.{edges, taken}
 use Rattle.digest.specs.declared.entry.Entry.{Entry}
-use Rattle.answers.specs.declared.dependences.Towards.{Towards}
+use Rattle.answers.specs.Questions.{Towards}
 use Rattle.rules.specs.Rules.{is_read}
 use Rattle.digest.specs.Entries.{at, is_done, is_step, Sound}
 use Rattle.answers.specs.Questions.{done_in, source, step_of, steps}
 
-pub none_done : (es : List Entry) (o : ℕ) → o < 2048 → get_or (replicate 2048 0) o 0 ≡ done_in es o 0
+pub none_done : (es : List Entry) (o : ℕ) → o < 2048 → get_or (replicate 2048 None) o None ≡ done_in es o 0
 unfolding done_in
-none_done es o lt = get_or-replicate {A = ℕ} 2048 o 0 0 lt
+none_done es o lt = get_or-replicate {A = Option ℕ} 2048 o None None lt
 
 -- entry n is a DONE, and its transaction has none before
-pub done_noted : (es : List Entry) (ds : List ℕ) (n o : ℕ) → (at es n).owner < length ds → get_or ds o 0 ≡ done_in es o n
-    → is_done (at es n).kind ≡ true → get_or ds (at es n).owner 0 ≡ 0 → get_or (set ds (at es n).owner (n + 1)) o 0 ≡ done_in es o (n + 1)
+pub done_noted : (es : List Entry) (ds : List (Option ℕ)) (n o : ℕ) → (at es n).owner < length ds → get_or ds o None ≡ done_in es o n
+    → is_done (at es n).kind ≡ true → is_some (get_or ds (at es n).owner None) ≡ false → get_or (set ds (at es n).owner (Some n)) o None ≡ done_in es o (n + 1)
 unfolding done_in
 done_noted es ds n o lt same done fresh = rw add-one (elim (cases_eq o (at es n).owner) [
-  | inl e ↦ let new = get_or-set_same ds (at es n).owner (suc n) 0 lt in let here = ap (λ k. get_or ds k 0) e in let there = ap (λ k. get_or (set ds (at es n).owner (suc n)) k 0) e in grind (arith, nat_tests)
-  | inr ne ↦ let old = get_or-set_other ds (at es n).owner o (suc n) 0 ne in grind (arith, nat_tests)
+  | inl e ↦ let new = get_or-set_same ds (at es n).owner (Some n) None lt in let here = ap (λ k. get_or ds k None) e in let there = ap (λ k. get_or (set ds (at es n).owner (Some n)) k None) e in grind (arith, nat_tests)
+  | inr ne ↦ let old = get_or-set_other ds (at es n).owner o (Some n) None ne in grind (arith, nat_tests)
 ])
 
 -- entry n is no DONE, or its transaction has one before
-pub done_kept : (es : List Entry) (ds : List ℕ) (n o : ℕ) → get_or ds o 0 ≡ done_in es o n
-    → (is_done (at es n).kind && eqb (get_or ds (at es n).owner 0) 0) ≡ false → get_or ds o 0 ≡ done_in es o (n + 1)
+pub done_kept : (es : List Entry) (ds : List (Option ℕ)) (n o : ℕ) → get_or ds o None ≡ done_in es o n
+    → (is_done (at es n).kind && not (is_some (get_or ds (at es n).owner None))) ≡ false → get_or ds o None ≡ done_in es o (n + 1)
 unfolding done_in
 done_kept es ds n o same h = rw add-one (elim (cases_eq o (at es n).owner) [
-  | inl e ↦ let here = ap (λ k. get_or ds k 0) e in grind (arith, nat_tests)
+  | inl e ↦ let here = ap (λ k. get_or ds k None) e in grind (arith, nat_tests)
   | inr ne ↦ grind (arith, nat_tests)
 ])
 

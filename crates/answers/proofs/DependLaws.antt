@@ -4,7 +4,7 @@ use Rattle.std.proofs.lemmas.Bool.{cases_lt, both_ways}
 use Rattle.isolation.specs.History.{History, ReadsFrom, Depends}
 use Rattle.reach.specs.Paths.{Edge, Path}
 use Rattle.digest.specs.declared.entry.Entry.{Entry}
-use Rattle.answers.specs.declared.dependences.Towards.{Towards}
+use Rattle.answers.specs.Questions.{Towards}
 use Rattle.digest.specs.Entries.{at, is_step}
 use Rattle.answers.specs.Questions.{step_of, steps}
 use Rattle.digest.proofs.Snoc.{length_snoc, getD_old, getD_new}

@@ -1,12 +1,12 @@
 -- The answer on dirty reads is right.
-use Rattle.std.proofs.Common.{◌≡◌, ℕ, ◌-◌, ◌<◌, Bool, true, false, not, ltb, leb, ◌⊎◌, List, length, get_or, Decides, sym, refl, ap, ◌∙◌, subst, inl, inr, arith}
-use Rattle.std.proofs.lemmas.Bool.{cases_Bool, and_parts, and_from, ltb-true, lt-ltb, leb-true, le-leb, not-true, not_from_false, both_ways}
+use Rattle.std.proofs.Common.{◌≡◌, ℕ, ◌-◌, ◌<◌, Bool, true, false, not, ◌⊎◌, Option, Some, None, List, length, get_or, Decides, sym, refl, ap, ◌∙◌, subst, inl, inr, arith}
+use Rattle.std.proofs.lemmas.Bool.{cases_Bool, and_parts, and_from, ltb-true, lt-ltb, not-true, not_from_false, both_ways}
 use Rattle.records.specs.declared.kind.Kind.TheVariants.{Read, Done}
 use Rattle.records.specs.declared.line.Line.{Line}
 use Rattle.digest.specs.declared.entry.Entry.{Entry}
 use Rattle.rules.specs.Rules.{is_read}
 use Rattle.digest.specs.Entries.{at, is_step, Sound}
-use Rattle.answers.specs.Questions.{some_below, source, before, dirty}
+use Rattle.answers.specs.Questions.{some_below, source, comes_before, before, dirty}
 use Rattle.verdicts.specs.Verdicts.{Stands, CommittedReads}
 use Rattle.answers.proofs.TestLaws.{some_hit}
 use Rattle.answers.proofs.CommitLaws.{step_reads}
@@ -15,7 +15,11 @@ use Rattle.answers.proofs.HistoryLaws.{EntryAt, kind_read, stands_entry, entry_s
 use Rattle.answers.proofs.AnswerLaws.{some_found}
 use Rattle.answers.proofs.DoneLaws.{Dones, done_before, done_found}
 
-module _ (ls : List Line) (es : List Entry) (ds : List ℕ) (f : Facts ls es) (s : Sound es) (dones : Dones es ds) where
+earlier : (v : Option ℕ) (i : ℕ) → comes_before v i ≡ true → (d : ℕ) × (v ≡ Some d) × (d < i)
+earlier (Some d) i h = (d, refl, ltb-true d i h)
+earlier None i h = absurd (cc)
+
+module _ (ls : List Line) (es : List Entry) (ds : List (Option ℕ)) (f : Facts ls es) (s : Sound es) (dones : Dones es ds) where
   -- a READ from a transaction: its writer's entry
   source_of : (i : ℕ) (l : Line) → i < length es → ReadsFromLine es i l (at es i) → 0 < (at es i).version
       → (j : ℕ) × (j < length es) × (source es (at es i) ≡ (at es j).owner) × ((at es j).transaction.0 ≡ l.writer.0)
@@ -28,15 +32,14 @@ module _ (ls : List Line) (es : List Entry) (ds : List ℕ) (f : Facts ls es) (s
   -- the writer's DONE stands before place i exactly where the table says so
   before_stands : (i j w : ℕ) → j < length es → (at es j).transaction.0 ≡ w → before ds (at es j).owner i ≡ true → (d : ℕ) × (d < i) × Stands ls d Done w
   before_stands i j w lt by h =
-      let (pos, le) = and_parts (ltb 0 (get_or ds (at es j).owner 0)) (leb (get_or ds (at es j).owner 0) i) h in
-      let (d, v, st) = done_found ls es ds f s dones j lt (ltb-true 0 _ pos) in
-      (d, omega (arith, leb-true _ _ le), subst (Stands ls d Done) by st)
+      let (d, v, less) = earlier (get_or ds (at es j).owner None) i h in
+      (d, less, subst (Stands ls d Done) by (done_found ls es ds f s dones j d lt v))
 
   stands_before : (i j w d : ℕ) → j < length es → (at es j).transaction.0 ≡ w → d < i → Stands ls d Done w → before ds (at es j).owner i ≡ true
   stands_before i j w d lt by less st =
       let e = stands_entry ls es f s d Done w st in
-      let (pos, le) = done_before ls es ds f s dones j d lt (record { inside = e.inside; kind = e.kind; by = e.by ∙ sym by }) in
-      and_from _ _ (lt-ltb 0 _ pos) (le-leb _ i (omega arith))
+      let (k, v, le) = done_before ls es ds f s dones j d lt (record { inside = e.inside; kind = e.kind; by = e.by ∙ sym by }) in
+      ap (λ o. comes_before o i) v ∙ lt-ltb k i (omega arith)
 
   clean : some_below (dirty es ds) (length es) ≡ false → CommittedReads ls
   clean none i t x w h =

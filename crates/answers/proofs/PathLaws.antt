@@ -7,7 +7,7 @@ use Rattle.reach.specs.Paths.{Edge, Path}
 use Rattle.records.specs.declared.kind.Kind.TheVariants.{Writ}
 use Rattle.records.specs.declared.line.Line.{Line}
 use Rattle.digest.specs.declared.entry.Entry.{Entry}
-use Rattle.answers.specs.declared.dependences.Towards.TheVariants.{Writers, Readers}
+use Rattle.answers.specs.Questions.{Towards}
 use Rattle.rules.specs.Rules.{is_read}
 use Rattle.digest.specs.Entries.{at, is_step, Sound}
 use Rattle.answers.specs.Questions.{source, steps}
@@ -85,18 +85,18 @@ module _ (ls : List Line) (es : List Entry) (f : Facts ls es) (s : Sound es) whe
     low j lt = omega (arith, s.owner j lt)
 
     -- the edge of a step, between the owners of any entries of the two transactions
-    forward_edge : (i j : ℕ) → Step es i j → (i' j' : ℕ) → (at es i).owner ≡ i' → (at es j).owner ≡ j' → Edge (steps Writers es (length es)) i' j'
+    forward_edge : (i j : ℕ) → Step es i j → (i' j' : ℕ) → (at es i).owner ≡ i' → (at es j).owner ≡ j' → Edge (steps Towards.Writers es (length es)) i' j'
     forward_edge i j st i' j' a b =
-        subst (λ y. Edge (steps Writers es (length es)) i' y) (st.source ∙ b)
-        (subst (λ x. Edge (steps Writers es (length es)) x (source es (at es i))) a (step_edge Writers es (length es) i st.reader st.steps))
+        subst (λ y. Edge (steps Towards.Writers es (length es)) i' y) (st.source ∙ b)
+        (subst (λ x. Edge (steps Towards.Writers es (length es)) x (source es (at es i))) a (step_edge Towards.Writers es (length es) i st.reader st.steps))
 
-    backward_edge : (i j : ℕ) → Step es i j → (i' j' : ℕ) → (at es i).owner ≡ i' → (at es j).owner ≡ j' → Edge (steps Readers es (length es)) j' i'
+    backward_edge : (i j : ℕ) → Step es i j → (i' j' : ℕ) → (at es i).owner ≡ i' → (at es j).owner ≡ j' → Edge (steps Towards.Readers es (length es)) j' i'
     backward_edge i j st i' j' a b =
-        subst (λ y. Edge (steps Readers es (length es)) y i') (st.source ∙ b)
-        (subst (λ x. Edge (steps Readers es (length es)) (source es (at es i)) x) a (step_edge Readers es (length es) i st.reader st.steps))
+        subst (λ y. Edge (steps Towards.Readers es (length es)) y i') (st.source ∙ b)
+        (subst (λ x. Edge (steps Towards.Readers es (length es)) (source es (at es i)) x) a (step_edge Towards.Readers es (length es) i st.reader st.steps))
 
     pub depends_forward : {t u : ℕ} → Depends (history_of ls) t u → (i j : ℕ) → i < length es → j < length es → (at es i).transaction.0 ≡ t → (at es j).transaction.0 ≡ u
-        → Path (steps Writers es (length es)) m (at es i).owner (at es j).owner
+        → Path (steps Towards.Writers es (length es)) m (at es i).owner (at es j).owner
     depends_forward (Depends.one {t = t} {u = u} r) i j lt less a b =
         let (p, q, st, x, y) = reads_step t u r in
         Path.one (forward_edge p q st _ _ (same_owner ls es f s p i st.reader lt (x ∙ sym a)) (same_owner ls es f s q j st.writer less (y ∙ sym b))) (low j less)
@@ -105,13 +105,13 @@ module _ (ls : List Line) (es : List Entry) (f : Facts ls es) (s : Sound es) whe
         Path.more (forward_edge p q st _ _ (same_owner ls es f s p i st.reader lt (x ∙ sym a)) refl) (low q st.writer) (depends_forward d q j st.writer less y b)
 
     pub depends_backward : {t u : ℕ} → Depends (history_of ls) t u → (i j : ℕ) → i < length es → j < length es → (at es i).transaction.0 ≡ t → (at es j).transaction.0 ≡ u
-        → Path (steps Readers es (length es)) m (at es j).owner (at es i).owner
+        → Path (steps Towards.Readers es (length es)) m (at es j).owner (at es i).owner
     depends_backward (Depends.one {t = t} {u = u} r) i j lt less a b =
         let (p, q, st, x, y) = reads_step t u r in
         Path.one (backward_edge p q st _ _ (same_owner ls es f s p i st.reader lt (x ∙ sym a)) (same_owner ls es f s q j st.writer less (y ∙ sym b))) (low i lt)
     depends_backward (Depends.more {t = t} {u = u} r d) i j lt less a b =
         let (p, q, st, x, y) = reads_step t u r in
-        path_snoc (steps Readers es (length es)) m (at es i).owner (depends_backward d q j st.writer less y b)
+        path_snoc (steps Towards.Readers es (length es)) m (at es i).owner (depends_backward d q j st.writer less y b)
         (backward_edge p q st _ _ (same_owner ls es f s p i st.reader lt (x ∙ sym a)) refl) (low i lt)
 
     -- an edge is a step of the history, between any entries of the two owners
@@ -122,23 +122,23 @@ module _ (ls : List Line) (es : List Entry) (f : Facts ls es) (s : Sound es) whe
         subst (λ t. ReadsFrom (history_of ls) t (at es j).transaction.0) (same_transaction ls es f s p i in' lt a)
         (subst (λ u. ReadsFrom (history_of ls) (at es p).transaction.0 u) (same_transaction ls es f s q j st.writer less (sym st.source ∙ b)) r)
 
-    pub forward_depends : {a b : ℕ} → Path (steps Writers es (length es)) m a b → (i j : ℕ) → i < length es → j < length es → (at es i).owner ≡ a → (at es j).owner ≡ b
+    pub forward_depends : {a b : ℕ} → Path (steps Towards.Writers es (length es)) m a b → (i j : ℕ) → i < length es → j < length es → (at es i).owner ≡ a → (at es j).owner ≡ b
         → Depends (history_of ls) (at es i).transaction.0 (at es j).transaction.0
     forward_depends (Path.one {a = a} {b = b} e small) i j lt less x y =
-        let (p, in', h, q) = edge_step Writers es (length es) a b e in
+        let (p, in', h, q) = edge_step Towards.Writers es (length es) a b e in
         Depends.one (edge_reads i j p lt less in' h (ap (λ (w : ℕ × ℕ). w.0) q ∙ sym x) (ap (λ (w : ℕ × ℕ). w.1) q ∙ sym y))
     forward_depends (Path.more {a = a} {b = b} e small rest) i j lt less x y =
-        let (p, in', h, q) = edge_step Writers es (length es) a b e in
+        let (p, in', h, q) = edge_step Towards.Writers es (length es) a b e in
         let (k, st, r) = step_from p in' h in
         Depends.more (edge_reads i k p lt st.writer in' h (ap (λ (w : ℕ × ℕ). w.0) q ∙ sym x) st.source)
         (forward_depends rest k j st.writer less (sym st.source ∙ ap (λ (w : ℕ × ℕ). w.1) q) y)
 
-    pub backward_depends : {a b : ℕ} → Path (steps Readers es (length es)) m a b → (i j : ℕ) → i < length es → j < length es → (at es i).owner ≡ a → (at es j).owner ≡ b
+    pub backward_depends : {a b : ℕ} → Path (steps Towards.Readers es (length es)) m a b → (i j : ℕ) → i < length es → j < length es → (at es i).owner ≡ a → (at es j).owner ≡ b
         → Depends (history_of ls) (at es j).transaction.0 (at es i).transaction.0
     backward_depends (Path.one {a = a} {b = b} e small) i j lt less x y =
-        let (p, in', h, q) = edge_step Readers es (length es) a b e in
+        let (p, in', h, q) = edge_step Towards.Readers es (length es) a b e in
         Depends.one (edge_reads j i p less lt in' h (ap (λ (w : ℕ × ℕ). w.1) q ∙ sym y) (ap (λ (w : ℕ × ℕ). w.0) q ∙ sym x))
     backward_depends (Path.more {a = a} {b = b} e small rest) i j lt less x y =
-        let (p, in', h, q) = edge_step Readers es (length es) a b e in
+        let (p, in', h, q) = edge_step Towards.Readers es (length es) a b e in
         depends_snoc (history_of ls) (at es i).transaction.0 (backward_depends rest p j in' less (ap (λ (w : ℕ × ℕ). w.1) q) y)
         (edge_reads p i p in' lt in' h refl (ap (λ (w : ℕ × ℕ). w.0) q ∙ sym x))

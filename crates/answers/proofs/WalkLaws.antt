@@ -1,11 +1,11 @@
 -- Walks over the entries of one owner, and over the WRITs of one card.
-use Rattle.std.proofs.Common.{◌≡◌, ℕ, zero, suc, ◌%◌, ◌<◌, ◌≤◌, Bool, true, false, cond, not, ◌&&◌, ◌||◌, eqb, ltb, List, length, sym, refl, ap, ◌∙◌, inl, inr, arith}
+use Rattle.std.proofs.Common.{◌≡◌, ℕ, zero, suc, ◌%◌, ◌<◌, ◌≤◌, Bool, true, false, cond, not, ◌&&◌, eqb, ltb, Option, List, length, sym, refl, ap, ◌∙◌, inl, inr, arith}
 use Rattle.std.proofs.lemmas.Bool.{cases_Bool, cases_lt, and_parts, eqb-true, ltb-true, both_ways}
 use Rattle.rules.specs.Rules.{is_read, is_writ}
 use Rattle.digest.specs.declared.entry.Entry.{Entry}
 use Rattle.digest.specs.Entries.{at, newer, rivals, Sound}
 use Rattle.digest.proofs.LinkLaws.{NoneFrom, Only}
-use Rattle.answers.specs.Questions.{some_below, marked, outdated, clashes, own_node, writ_node}
+use Rattle.answers.specs.Questions.{some_below, marked, apart, outdated, clashes, own_node, writ_node}
 
 pub none_at_all : (p : ℕ → Bool) (n : ℕ) → NoneFrom p 0 n → some_below p n ≡ false
 unfolding some_below
@@ -24,14 +24,13 @@ only_newer es ms r = λ k lt h.
     let (w, c) = and_parts (is_writ (at es k).kind) (eqb (at es k).card.0 r.card.0) front in
     writ_under (at es k) r.card.0 w (eqb-true _ _ c)
 
-pub only_rivals : (es : List Entry) (ds fs bs : List ℕ) (e : Entry) → Only writ_node es (length es)
-    (λ j. rivals e (at es j) && marked ds (at es j).owner && not (marked fs (at es j).owner || marked bs (at es j).owner)) (e.card.0 % 2048)
-only_rivals es ds fs bs e = λ k lt h.
-    let front = (and_parts (rivals e (at es k) && marked ds (at es k).owner) (not (marked fs (at es k).owner || marked bs (at es k).owner)) h).0 in
-    let riv = (and_parts (rivals e (at es k)) (marked ds (at es k).owner) front).0 in
+pub only_rivals : (es : List Entry) (ds : List (Option ℕ)) (fs bs : List ℕ) (e : Entry) → is_writ e.kind ≡ true
+    → Only writ_node es (length es) (λ j. rivals e (at es j) && apart ds fs bs (at es j).owner) (writ_node e)
+only_rivals es ds fs bs e writ = λ k lt h.
+    let riv = (and_parts (rivals e (at es k)) (apart ds fs bs (at es k).owner) h).0 in
     let kc = (and_parts (is_writ e.kind && is_writ (at es k).kind && eqb e.card.0 (at es k).card.0) (not (eqb e.owner (at es k).owner)) riv).0 in
     let (kk, c) = and_parts (is_writ e.kind && is_writ (at es k).kind) (eqb e.card.0 (at es k).card.0) kc in
-    writ_under (at es k) e.card.0 (and_parts (is_writ e.kind) (is_writ (at es k).kind) kk).1 (sym (eqb-true _ _ c))
+    writ_under (at es k) e.card.0 (and_parts (is_writ e.kind) (is_writ (at es k).kind) kk).1 (sym (eqb-true _ _ c)) ∙ sym (writ_under e e.card.0 writ refl)
 
 pub only_own_reads : (es : List Entry) (ms : List ℕ) (o : ℕ)
     → Only own_node es (length es) (λ i. is_read (at es i).kind && eqb (at es i).owner o && outdated es ms (at es i)) o
@@ -39,7 +38,7 @@ only_own_reads es ms o = λ k lt h.
     let front = (and_parts (is_read (at es k).kind && eqb (at es k).owner o) (outdated es ms (at es k)) h).0 in
     eqb-true _ _ (and_parts (is_read (at es k).kind) (eqb (at es k).owner o) front).1
 
-pub only_own_writs : (es : List Entry) (ds fs bs : List ℕ) (o : ℕ)
+pub only_own_writs : (es : List Entry) (ds : List (Option ℕ)) (fs bs : List ℕ) (o : ℕ)
     → Only own_node es (length es) (λ i. is_writ (at es i).kind && eqb (at es i).owner o && clashes es ds fs bs i) o
 only_own_writs es ds fs bs o = λ k lt h.
     let front = (and_parts (is_writ (at es k).kind && eqb (at es k).owner o) (clashes es ds fs bs k) h).0 in

@@ -7,45 +7,51 @@ ghost use Rattle.digest.specs.Told.{Told};
 ghost use Rattle.verdicts.specs.Verdicts.{Judged};
 
 use super::commits::{dones, has_dirty_read};
-use super::dependences::{Towards, dependences};
-use super::links::linked;
-use super::searches::search_all;
-use digest::{Entry, index};
-use reach::PLACES;
+use super::dependences::Dependences;
+use super::listed::Listed;
+use digest::{Entry, Listing, index};
+use reach::Graph;
 use verdicts::Verdict;
 
 // What the judge says of a file that is accepted with these marks, or whose records, no more than there are marks for, are good and in place;
-// what it says of any other means nothing. No mark is left set.
+// what it says of any other means nothing. No mark is left set. Entries are come by along links.
 pub fn judged(file: &[u8], marks: &mut [u32]) -> Verdict
     ensures verdict { (ls : List Line) → accepted file.now (length marks.old) ≡ Ok ls → Judged ls result }
     ensures good { records_in file.now ≤ 2048 → records_in file.now ≤ length marks.old → (ls : List Line) → scanned file.now (records_in file.now) ≡ Ok ls → Judged ls result }
     ensures clear { marks.new ≡ replicate (length marks.old) 0 }
 {
-    let mut table = [Entry::BLANK; PLACES];
-    let count = index(file, &mut table);
+    judged_by::<Graph>(file, marks)
+}
+
+// The same, by any listing.
+pub fn judged_by<W: Listing>(file: &[u8], marks: &mut [u32]) -> Verdict
+    ensures verdict { (ls : List Line) → accepted file.now (length marks.old) ≡ Ok ls → Judged ls result }
+    ensures good { records_in file.now ≤ 2048 → records_in file.now ≤ length marks.old → (ls : List Line) → scanned file.now (records_in file.now) ≡ Ok ls → Judged ls result }
+    ensures clear { marks.new ≡ replicate (length marks.old) 0 }
+{
+    let entries = index::<W>(file);
     let mut verdict = Verdict {
         aca: false,
         cons: false,
         wcf: false,
     };
-    if count <= marks.len() {
-        verdict = of_entries(&table[0..count], marks);
+    if entries.len() <= marks.len() {
+        verdict = of_entries::<W>(entries.as_slice(), marks);
     }
     marks.fill(0);
     verdict
 }
 
 // What the judge says of the lines whose entries these are.
-fn of_entries(entries: &[Entry], marks: &mut [u32]) -> Verdict
+fn of_entries<W: Listing>(entries: &[Entry], marks: &mut [u32]) -> Verdict
     requires { (Sound entries.now) × ((length entries.now ≤ 2048) × (length entries.now ≤ length marks.old)) }
     ensures { (ls : List Line) → Told ls entries.now → Judged ls result }
 {
     let dones = dones(entries);
-    let links = linked(entries);
-    let writers = dependences(entries, Towards::Writers);
-    let readers = dependences(entries, Towards::Readers);
+    let dependences = Dependences::of(entries);
+    let listed = Listed::<W>::new(entries);
     let dirty = has_dirty_read(entries, &dones);
-    let searched = search_all(entries, &links, &dones, &writers, &readers, marks);
+    let searched = listed.search_all(&dones, &dependences, marks);
     Verdict {
         aca: !dirty,
         cons: searched.cons,

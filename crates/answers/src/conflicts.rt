@@ -1,93 +1,98 @@
 ghost use Rattle.std.specs.Prelude.{◌≡◌, ◌<◌, ◌≤◌, true, length};
 ghost use Rattle.reach.specs.Paths.{edges};
 ghost use Rattle.rules.specs.Rules.{is_writ as writ-kind};
-ghost use Rattle.digest.specs.Entries.{at, Sound};
-ghost use Rattle.answers.specs.Questions.{Listed, Asked, clashes as has-clash, lost as is_lost};
+ghost use Rattle.digest.specs.Entries.{at};
+ghost use Rattle.answers.specs.Questions.{Asked, clashes as has-clash, lost as is_lost, apart};
 
-use super::links::Links;
-use digest::Entry;
-use reach::Graph;
+use super::commits::is_committed;
+use super::listed::{Listed, node_of};
+use super::marks::is_marked;
+use digest::Listing;
+use reach::{Graph, Places};
 
-// Whether an earlier committed rival of the WRIT at this place is neither in `forward` nor in `backward`.
-fn clashes(
-    entries: &[Entry],
-    links: &Links,
-    dones: &[u16],
-    forward: &[u32],
-    backward: &[u32],
-    place: usize,
-) -> bool
-    requires within { place < length entries.now }
-    requires writ { writ-kind (at entries.now place).kind ≡ true }
-    requires sound { Sound entries.now }
-    requires listed { Listed entries.now (length entries.now) (edges links.now.own) (edges links.now.writs) }
-    requires dones { length entries.now ≤ length dones.now }
-    requires forward { length entries.now ≤ length forward.now }
-    requires backward { length entries.now ≤ length backward.now }
-    ensures { result ≡ has-clash entries.now dones.now forward.now backward.now place }
-{
-    let writ = entries[place];
-    let mut link = links.writs.older(place);
-    while link > 0 {
-        let other = entries[link - 1];
-        let owner = other.owner as usize;
-        if writ.rivals(&other) && dones[owner] > 0 && forward[owner] == 0 && backward[owner] == 0 {
-            return true;
-        }
-        link = links.writs.older(link - 1);
-    }
-    false
+// What is known about a transaction: who is committed, and which transactions it depends on, and which depend on it.
+#[derive(Clone, Copy)]
+struct Known<'a> {
+    dones: &'a [Option<u16>],
+    forward: &'a [u32],
+    backward: &'a [u32],
 }
 
-// Whether the transaction with this owner has such a WRIT.
-fn lost(
-    entries: &[Entry],
-    links: &Links,
-    dones: &[u16],
-    forward: &[u32],
-    backward: &[u32],
-    owner: usize,
-) -> bool
-    requires sound { Sound entries.now }
-    requires listed { Listed entries.now (length entries.now) (edges links.now.own) (edges links.now.writs) }
-    requires dones { length entries.now ≤ length dones.now }
-    requires forward { length entries.now ≤ length forward.now }
-    requires backward { length entries.now ≤ length backward.now }
-    ensures { result ≡ is_lost entries.now dones.now forward.now backward.now owner }
-{
-    let mut link = links.own.newest(owner);
-    while link > 0 {
-        let entry = entries[link - 1];
-        if entry.is_writ() && clashes(entries, links, dones, forward, backward, link - 1) {
-            return true;
-        }
-        link = links.own.older(link - 1);
+impl Known<'_> {
+    // Whether the transaction with this owner is committed, and neither depends on the other.
+    fn is_apart(&self, owner: u16) -> bool
+        ensures { result ≡ apart self.now.dones.now self.now.forward.now self.now.backward.now owner }
+    {
+        is_committed(self.dones, owner)
+            && !(is_marked(self.forward, owner) || is_marked(self.backward, owner))
     }
-    false
 }
 
-// Whether the transaction with this owner is committed and in conflict with an earlier writer, where the transactions that it depends on are
-// marked in `forward`. Those that depend on it are searched for only where an earlier writer is not among them.
-pub(crate) fn conflicting(
-    entries: &[Entry],
-    links: &Links,
-    dones: &[u16],
-    readers: &Graph,
-    forward: &[u32],
-    backward: &mut [u32],
-    owner: usize,
-) -> bool
-    requires sound { Sound entries.now }
-    requires listed { Listed entries.now (length entries.now) (edges links.now.own) (edges links.now.writs) }
-    requires dones { length entries.now ≤ length dones.now }
-    requires own { owner < length entries.now }
-    requires forward { length entries.now ≤ length forward.now }
-    requires backward { length entries.now ≤ length backward.old }
-    ensures { Asked entries.now dones.now (edges readers.now) (length entries.now) forward.now owner result }
-{
-    if dones[owner] == 0 || !lost(entries, links, dones, forward, forward, owner) {
-        return false;
+impl<W: Listing> Listed<'_, W> {
+    // Whether an earlier committed rival of the WRIT at this place is independent of its transaction.
+    fn clashes(&self, known: &Known, place: usize) -> bool
+        requires within { place < length self.now.entries.now }
+        requires writ { writ-kind (at self.now.entries.now place).kind ≡ true }
+        ensures { result ≡ has-clash self.now.entries.now known.now.dones.now known.now.forward.now known.now.backward.now place }
+    {
+        let writ = self.entries[place];
+        for earlier in Places::older_than(&self.writs, node_of(&writ), place) {
+            let other = self.entries[earlier];
+            if writ.rivals(&other) && known.is_apart(other.owner) {
+                return true;
+            }
+        }
+        false
     }
-    readers.reach(owner, backward);
-    lost(entries, links, dones, forward, backward, owner)
+
+    // Whether the transaction with this owner has such a WRIT.
+    fn lost(&self, known: &Known, owner: usize) -> bool
+        ensures { result ≡ is_lost self.now.entries.now known.now.dones.now known.now.forward.now known.now.backward.now owner }
+    {
+        for place in Places::from_node(&self.own, owner) {
+            let entry = self.entries[place];
+            if entry.is_writ() && entry.owner as usize == owner && self.clashes(known, place) {
+                return true;
+            }
+        }
+        false
+    }
+
+    // Whether the transaction with this owner is committed and in conflict with an earlier writer, where the transactions that it depends on are
+    // marked in `forward`. Those that depend on it are searched for only where an earlier writer is not among them.
+    pub(crate) fn conflicting(
+        &self,
+        dones: &[Option<u16>],
+        readers: &Graph,
+        forward: &[u32],
+        backward: &mut [u32],
+        owner: usize,
+    ) -> bool
+        requires own { owner < length self.now.entries.now }
+        requires dones { length self.now.entries.now ≤ length dones.now }
+        requires backward { length self.now.entries.now ≤ length backward.old }
+        ensures { Asked self.now.entries.now dones.now (edges readers.now) (length self.now.entries.now) forward.now owner result }
+    {
+        if dones[owner].is_none()
+            || !self.lost(
+                &Known {
+                    dones,
+                    forward,
+                    backward: forward,
+                },
+                owner,
+            )
+        {
+            return false;
+        }
+        readers.reach(owner, backward);
+        self.lost(
+            &Known {
+                dones,
+                forward,
+                backward,
+            },
+            owner,
+        )
+    }
 }

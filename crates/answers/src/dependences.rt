@@ -1,35 +1,36 @@
 ghost use Rattle.std.specs.Prelude.{◌≡◌, ◌≤◌, length};
 ghost use Rattle.reach.specs.Paths.{edges};
 ghost use Rattle.digest.specs.Entries.{Sound};
-ghost use Rattle.answers.specs.Questions.{steps};
+ghost use Rattle.answers.specs.Questions.{Towards, steps};
 
 use digest::Entry;
 use reach::Graph;
 
-// Which way a graph of dependences leads.
-#[derive(Clone, Copy)]
-pub(crate) enum Towards {
+// The transactions, by owner, with an edge for each READ of a version that a transaction wrote.
+#[derive(Drop)]
+pub(crate) struct Dependences {
     // From each transaction to those that it reads from.
-    Writers,
+    pub(crate) writers: Graph,
     // From each transaction to those that read from it.
-    Readers,
+    pub(crate) readers: Graph,
 }
 
-// The graph of the transactions, by owner, with an edge for each READ of a version that a transaction wrote.
-pub(crate) fn dependences(entries: &[Entry], towards: Towards) -> Graph
-    requires { (Sound entries.now) × (length entries.now ≤ 2048) }
-    ensures { edges result ≡ steps towards entries.now (length entries.now) }
-{
-    let mut graph = Graph::new();
-    for entry in entries {
-        if entry.is_step() {
-            let reader = entry.owner as usize;
-            let writer = entries[entry.version as usize - 1].owner as usize;
-            let _ = match towards {
-                Towards::Writers => graph.add(reader, writer),
-                Towards::Readers => graph.add(writer, reader),
-            };
+impl Dependences {
+    pub(crate) fn of(entries: &[Entry]) -> Dependences
+        requires { (Sound entries.now) × (length entries.now ≤ 2048) }
+        ensures writers { edges result.writers ≡ steps Towards.Writers entries.now (length entries.now) }
+        ensures readers { edges result.readers ≡ steps Towards.Readers entries.now (length entries.now) }
+    {
+        let mut writers = Graph::new();
+        let mut readers = Graph::new();
+        for entry in entries {
+            if entry.is_step() {
+                let reader = entry.owner as usize;
+                let writer = entries[entry.version as usize - 1].owner as usize;
+                let _ = writers.add(reader, writer);
+                let _ = readers.add(writer, reader);
+            }
         }
+        Dependences { writers, readers }
     }
-    graph
 }

@@ -1,20 +1,18 @@
 -- Looking up a transaction's owner and the version that it wrote: what one entry more says.
-use Rattle.std.proofs.Common.{◌≡◌, ℕ, zero, suc, ◌-◌, ◌<◌, ◌≤◌, true, cond, eqb, List, ap, ◌∙◌, inl, inr, arith}
+use Rattle.std.proofs.Common.{◌≡◌, ℕ, zero, suc, ◌≤◌, true, cond, eqb, List, ap, refl, ◌∙◌, inl, inr, arith}
 use Rattle.std.proofs.lemmas.Bool.Decides.{nat_tests}
 use Rattle.std.proofs.lemmas.Bool.{cases_lt}
 use Rattle.digest.specs.declared.entry.Entry.{Entry}
 use Rattle.digest.specs.Entries.{at, wrote, owner_in, version_in}
 use Rattle.digest.proofs.LinkLaws.{NoneFrom}
 
-pub owner_hit : (es : List Entry) (t n : ℕ) → 0 < n → (at es (n - 1)).transaction.0 ≡ t → owner_in es t n ≡ (at es (n - 1)).owner
+pub owner_hit : (es : List Entry) (t n : ℕ) → (at es n).transaction.0 ≡ t → owner_in es t (suc n) ≡ (at es n).owner
 unfolding owner_in
-owner_hit es t zero lt e = absurd (omega arith)
-owner_hit es t (suc n) lt e = let s : suc n - 1 ≡ n = omega arith in let f : (at es n).transaction.0 ≡ t = rw s at e in rw s (grind (arith, nat_tests))
+owner_hit es t n e = grind (arith, nat_tests)
 
-pub version_hit : (es : List Entry) (x t n : ℕ) → 0 < n → wrote (at es (n - 1)) x t ≡ true → version_in es x t n ≡ n
+pub version_hit : (es : List Entry) (x t n : ℕ) → wrote (at es n) x t ≡ true → version_in es x t (suc n) ≡ suc n
 unfolding version_in
-version_hit es x t zero lt e = absurd (omega arith)
-version_hit es x t (suc n) lt e = let s : suc n - 1 ≡ n = omega arith in let f : wrote (at es n) x t ≡ true = rw s at e in rw f
+version_hit es x t n e = rw e refl
 
 -- entries that are passed over change nothing
 pub owner_skip : (es : List Entry) (t i n : ℕ) → i ≤ n → NoneFrom (λ k. eqb (at es k).transaction.0 t) i n → owner_in es t n ≡ owner_in es t i

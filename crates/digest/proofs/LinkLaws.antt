@@ -1,7 +1,8 @@
--- Walks over linked entries, from the newest to the oldest of a node.
-use Rattle.std.proofs.Common.{◌≡◌, ℕ, suc, ◌<◌, ◌≤◌, Bool, true, false, List, [], ◌∷◌, ◌++◌, length, sym, refl, ap, ◌∙◌, subst, inl, inr, arith}
-use Rattle.std.proofs.lemmas.Bool.{cases_lt, cases_Bool}
-use Rattle.reach.specs.Links.{from, Last}
+-- Walks over listed entries, from the newest to the oldest of a node.
+use Rattle.std.proofs.Common.{◌≡◌, ℕ, suc, ◌<◌, ◌≤◌, Bool, true, false, List, [], ◌∷◌, ◌++◌, length, sym, ap, ◌∙◌, subst, inl, inr, arith}
+use Rattle.std.proofs.lemmas.Bool.{cases_lt, cases_Bool, both_ways}
+use Rattle.reach.specs.Links.{picks}
+use Rattle.reach.proofs.PickLaws.{Passed, passed_none, passed_here, passed_between, passed_more, passed_all}
 use Rattle.digest.specs.declared.entry.Entry.{Entry}
 use Rattle.digest.specs.Entries.{blank, at}
 use Rattle.digest.specs.Links.{Linked}
@@ -11,56 +12,75 @@ use Rattle.digest.proofs.Snoc.{length_snoc, getD_old, getD_new}
 abbrev pub NoneFrom : (ℕ → Bool) → ℕ → ℕ → Type 0
 NoneFrom p i n = (k : ℕ) → i ≤ k → k < n → p k ≡ false
 
--- what passes is linked under the node
+-- what passes is listed under the node
 abbrev pub Only : (Entry → ℕ) → List Entry → ℕ → (ℕ → Bool) → ℕ → Type 0
 Only key es n p m = (k : ℕ) → k < n → p k ≡ true → key (at es k) ≡ m
 
-module _ (key : Entry → ℕ) (es : List Entry) (n : ℕ) (gs : List (ℕ × ℕ)) (linked : Linked key es n gs) where
-  -- a place that is linked under another node does not pass
-  passed_over : (p : ℕ → Bool) (m k : ℕ) → Only key es n p m → k < n → (from gs k ≡ m → ⊥) → p k ≡ false
-  passed_over p m k only lt apart = elim (cases_Bool (p k)) [ inl h ↦ absurd (apart (linked.by k lt ∙ only k lt h)) | inr h ↦ h ]
+-- the places from a node that are still to come, where none that was passed passes the test
+abbrev pub Ahead : (ℕ → ℕ → Bool) → ℕ → (ℕ → Bool) → ℕ → List ℕ → Type 0
+Ahead comes m p b xs = Passed (comes m) (λ i. (i < b) × (p i ≡ true)) b xs
 
-  pub none_newest : (p : ℕ → Bool) (m link : ℕ) → Only key es n p m → Last gs m (length gs) link → NoneFrom p link n
-  none_newest p m link only last = λ k le lt. passed_over p m k only lt (last.above k le (omega (arith, linked.each)))
+none_from : (p : ℕ → Bool) (a b : ℕ) → ((i : ℕ) → a ≤ i → i < b → (i < b) × (p i ≡ true) → ⊥) → NoneFrom p a b
+none_from p a b none = λ i ge lt. elim (cases_Bool (p i)) [ inl t ↦ absurd (none i ge lt (lt, t)) | inr f ↦ f ]
 
-  -- the same from a place b on downwards
-  pub none_before : (p : ℕ → Bool) (m b link : ℕ) → Only key es n p m → b ≤ n → Last gs m b link → NoneFrom p link b
-  none_before p m b link only fit last = λ k le lt. passed_over p m k only (omega arith) (last.above k le lt)
+module _ (count : ℕ) (comes : ℕ → ℕ → Bool) (key : Entry → ℕ) (es : List Entry) (linked : Linked count comes key es (length es))
+    (p : ℕ → Bool) (m b : ℕ) (few : b ≤ length es) (only : Only key es (length es) p m) where
+  comes_there : (i : ℕ) → (i < b) × (p i ≡ true) → comes m i ≡ true
+  comes_there i (lt, h) = let in' : i < length es = omega arith in subst (λ n. comes n i ≡ true) (only i in' h) (linked.by i in')
 
-  pub none_older : (p : ℕ → Bool) (m b k next : ℕ) → Only key es n p m → b ≤ n → k < b → Last gs m k next → p k ≡ false → NoneFrom p (suc k) b → NoneFrom p next b
-  none_older p m b k next only fit lt last here above = λ j le less. elim (cases_lt j k) [
-    | inl below ↦ passed_over p m j only (omega arith) (last.above j le below)
-    | inr ge ↦ elim (cases_lt k j) [
-      | inl past ↦ above j past less
-      | inr at' ↦ let same : k ≡ j = omega arith in subst (λ i. p i ≡ false) same here
-    ]
-  ]
+  pub ahead_all : (xs : List ℕ) → xs ≡ picks (comes m) b → Ahead comes m p b xs
+  ahead_all xs e = passed_none (comes m) (λ i. (i < b) × (p i ≡ true)) b xs e
 
--- no entry, no edge
-pub linked_none : (key : Entry → ℕ) (es : List Entry) → Linked key es 0 []
-linked_none key es = record { each = refl; by = λ k lt. absurd (omega arith) }
+  -- the next place, k, with those behind it
+  module _ (k : ℕ) (xs ys : List ℕ) (step : xs ≡ k ∷ ys) (h : Ahead comes m p b xs) where
+    turned : Ahead comes m p b (k ∷ ys)
+    turned = subst (Ahead comes m p b) step h
 
--- one entry more is linked
-pub linked_more : (key : Entry → ℕ) (es : List Entry) (n x : ℕ) (gs : List (ℕ × ℕ)) → Linked key es n gs → Linked key es (suc n) (gs ++ (key (at es n), x) ∷ [])
-linked_more key es n x gs l = record {
-  each = length_snoc gs (key (at es n), x) ∙ ap suc l.each;
+    pub ahead_here : k < b
+    ahead_here = (passed_here (comes m) (λ i. (i < b) × (p i ≡ true)) b k ys turned).0
+
+    pub ahead_after : NoneFrom p (suc k) b
+    ahead_after = none_from p (suc k) b (λ i ge lt. passed_between (comes m) (λ i. (i < b) × (p i ≡ true)) b comes_there k ys turned i (omega arith) lt)
+
+    pub ahead_more : p k ≡ false → Ahead comes m p b ys
+    ahead_more f = passed_more (comes m) (λ i. (i < b) × (p i ≡ true)) b comes_there k ys turned (λ t. both_ways _ f t.1)
+
+  pub ahead_none : (xs : List ℕ) → xs ≡ [] → Ahead comes m p b xs → NoneFrom p 0 b
+  ahead_none xs e h = none_from p 0 b (λ i ge lt. passed_all (comes m) (λ i. (i < b) × (p i ≡ true)) b comes_there (subst (Ahead comes m p b) e h) i lt)
+
+-- no entry, no place
+pub linked_none : (count : ℕ) (comes : ℕ → ℕ → Bool) (key : Entry → ℕ) (es : List Entry) → count ≡ 0 → Linked count comes key es 0
+linked_none count comes key es e = record { each = e; by = λ k lt. absurd (omega arith) }
+
+-- the listing after one place more, from node m
+pub record Grown (count count' : ℕ) (comes comes' : ℕ → ℕ → Bool) (m : ℕ) : Type 0 where
+  pub more : count' ≡ suc count
+  pub here : comes' m count ≡ true
+  pub kept : (n k : ℕ) → k < count → comes n k ≡ true → comes' n k ≡ true
+
+-- one entry more is listed
+pub linked_more : (count count' : ℕ) (comes comes' : ℕ → ℕ → Bool) (key : Entry → ℕ) (es : List Entry) (n : ℕ) → Linked count comes key es n
+    → Grown count count' comes comes' (key (at es n)) → Linked count' comes' key es (suc n)
+linked_more count count' comes comes' key es n l g = record {
+  each = g.more ∙ ap suc l.each;
   by = λ k lt. elim (cases_lt k n) [
-    | inl below ↦ ap (λ (p : ℕ × ℕ). p.0) (getD_old gs (key (at es n), x) (0, 0) k (omega (arith, l.each))) ∙ l.by k below
+    | inl below ↦ g.kept (key (at es k)) k (omega (arith, l.each)) (l.by k below)
     | inr ge ↦
         let same : n ≡ k = omega arith in
-        subst (λ i. from (gs ++ (key (at es n), x) ∷ []) i ≡ key (at es i)) same
-        (subst (λ i. from (gs ++ (key (at es n), x) ∷ []) i ≡ key (at es n)) l.each (ap (λ (p : ℕ × ℕ). p.0) (getD_new gs (key (at es n), x) (0, 0))))
+        subst (λ i. comes' (key (at es i)) i ≡ true) same (subst (λ i. comes' (key (at es n)) i ≡ true) l.each g.here)
   ];
 }
 
 -- the same entries, and others behind them
-pub linked_same : (key : Entry → ℕ) (es fs : List Entry) (n : ℕ) (gs : List (ℕ × ℕ)) → ((k : ℕ) → k < n → at fs k ≡ at es k) → Linked key es n gs → Linked key fs n gs
-linked_same key es fs n gs same l = record { each = l.each; by = λ k lt. l.by k lt ∙ ap key (sym (same k lt)) }
+pub linked_same : (count : ℕ) (comes : ℕ → ℕ → Bool) (key : Entry → ℕ) (es fs : List Entry) (n : ℕ) → ((k : ℕ) → k < n → at fs k ≡ at es k)
+    → Linked count comes key es n → Linked count comes key fs n
+linked_same count comes key es fs n same l = record { each = l.each; by = λ k lt. subst (λ (e : Entry). comes (key e) k ≡ true) (sym (same k lt)) (l.by k lt) }
 
--- one more entry behind the others is linked
-pub linked_snoc : (key : Entry → ℕ) (es : List Entry) (e : Entry) (n x : ℕ) (gs : List (ℕ × ℕ)) → length es ≡ n → Linked key es n gs
-    → Linked key (es ++ e ∷ []) (suc n) (gs ++ (key e, x) ∷ [])
-linked_snoc key es e n x gs long l =
-    let wide = linked_same key es (es ++ e ∷ []) n gs (λ k lt. getD_old es e blank k (omega (arith, long))) l in
-    let here : at (es ++ e ∷ []) n ≡ e = ap (at (es ++ e ∷ [])) (sym long) ∙ getD_new es e blank in
-    subst (λ (y : Entry). Linked key (es ++ e ∷ []) (suc n) (gs ++ (key y, x) ∷ [])) here (linked_more key (es ++ e ∷ []) n x gs wide)
+-- one more entry behind the others is listed
+pub linked_snoc : (count count' : ℕ) (comes comes' : ℕ → ℕ → Bool) (key : Entry → ℕ) (es : List Entry) (e : Entry) → Linked count comes key es (length es)
+    → Grown count count' comes comes' (key e) → Linked count' comes' key (es ++ e ∷ []) (length (es ++ e ∷ []))
+linked_snoc count count' comes comes' key es e l g =
+    let wide = linked_same count comes key es (es ++ e ∷ []) (length es) (λ k lt. getD_old es e blank k lt) l in
+    let here : at (es ++ e ∷ []) (length es) ≡ e = getD_new es e blank in
+    subst (Linked count' comes' key (es ++ e ∷ [])) (sym (length_snoc es e))
+    (linked_more count count' comes comes' key (es ++ e ∷ []) (length es) wide (subst (λ (y : Entry). Grown count count' comes comes' (key y)) (sym here) g))

@@ -10,28 +10,19 @@ impl Entry {
     pub fn is_read(&self) -> bool
         ensures { result ≡ read-kind self.now.kind }
     {
-        match self.kind {
-            Kind::Read => true,
-            Kind::Writ | Kind::Done | Kind::Gone => false,
-        }
+        self.kind == Kind::Read
     }
 
     pub fn is_writ(&self) -> bool
         ensures { result ≡ writ-kind self.now.kind }
     {
-        match self.kind {
-            Kind::Writ => true,
-            Kind::Read | Kind::Done | Kind::Gone => false,
-        }
+        self.kind == Kind::Writ
     }
 
     pub fn is_done(&self) -> bool
         ensures { result ≡ done-kind self.now.kind }
     {
-        match self.kind {
-            Kind::Done => true,
-            Kind::Read | Kind::Writ | Kind::Gone => false,
-        }
+        self.kind == Kind::Done
     }
 
     // Whether it reads a version that a transaction wrote.

@@ -13,13 +13,15 @@ pub struct Entry {
     pub version: u16,
 }
 
-impl Entry {
+impl Default for Entry {
     // An entry for no record.
-    pub const BLANK: Entry = Entry {
-        kind: Kind::Read,
-        transaction: TxNo(0),
-        card: CardNo(0),
-        owner: 0,
-        version: 0,
-    };
+    fn default() -> Entry {
+        Entry {
+            kind: Kind::Read,
+            transaction: TxNo(0),
+            card: CardNo(0),
+            owner: 0,
+            version: 0,
+        }
+    }
 }

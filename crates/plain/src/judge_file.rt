@@ -1,11 +1,12 @@
 // The judge of history files.
-ghost use Rattle.std.specs.Prelude.{◌≡◌, length, replicate, Err, MatchResult};
+ghost use Rattle.std.specs.Prelude.{◌≡◌, length, replicate};
 ghost use Rattle.rules.specs.Rules.{accepted};
 ghost use Rattle.history.specs.Judging.{Answers};
-ghost use Rattle.plain.specs.Judging.{Accepts};
 
-use super::answering::judged;
+use super::every::EveryPlace;
+use answers::judged_by;
 use rules::JudgeFault;
+use scan::accept;
 use verdicts::Verdict;
 
 // Whether a history file obeys the rules: of each property whether it holds, or why the file is not judged. The marks are
@@ -16,12 +17,5 @@ pub fn judge(file: &[u8], marks: &mut [u32]) -> Result<Verdict, JudgeFault>
 {
     marks.fill(0);
     accept(file, marks.len())?;
-    Ok(judged(file, marks))
-}
-
-// Tests a file by the rules, in their order.
-fn accept(file: &[u8], marks: usize) -> Result<(), JudgeFault>
-    ensures { MatchResult result (λ _. Accepts file.now marks) (λ f. accepted file.now marks ≡ Err f) }
-{
-    scan::accept(file, marks)
+    Ok(judged_by::<EveryPlace>(file, marks))
 }

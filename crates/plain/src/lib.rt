@@ -2,14 +2,7 @@
 // follows links between the entries.
 #![tactic(auto)]
 
-mod answering;
-mod asks;
-mod commits;
-mod conflicts;
-mod dependences;
-mod entry;
-mod index;
+mod every;
 mod judge_file;
-mod snapshots;
 
 pub use judge_file::judge;

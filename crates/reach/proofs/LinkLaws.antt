@@ -4,38 +4,14 @@ use Rattle.std.proofs.lemmas.Bool.Decides.{eqb_tells}
 use Rattle.std.proofs.lemmas.Bool.{cases_lt}
 use Rattle.std.proofs.lemmas.List.{get_or_append_left}
 use Rattle.std.proofs.Math.Seq.{get_or-append_seam}
-use Rattle.reach.specs.Links.{places, from, to, picks, first, leaves, link, bound, Within, NewestLinked, OlderLinked, Last}
-use Rattle.reach.proofs.PickLaws.{picks_same, picks_front, picks_none, first_inside}
+use Rattle.reach.specs.Links.{places, from, to, picks, first, leaves, link, Within, NewestLinked, OlderLinked}
+use Rattle.reach.proofs.PickLaws.{picks_same, first_inside}
 
 pub leaves_from : (es : List (ℕ × ℕ)) (n k : ℕ) → leaves es n k ≡ true → from es k ≡ n
 leaves_from es n k t = elim (eqb_tells (from es k) n) [ inl p ↦ p.1 | inr p ↦ let z : true ≡ false = sym t ∙ p.0 in absurd (cc) ]
 
 pub from_leaves : (es : List (ℕ × ℕ)) (n k : ℕ) → from es k ≡ n → leaves es n k ≡ true
 from_leaves es n k e = elim (eqb_tells (from es k) n) [ inl p ↦ p.0 | inr p ↦ absurd (p.1 e) ]
-
-not_leaves : (es : List (ℕ × ℕ)) (n k : ℕ) → leaves es n k ≡ false → from es k ≢ n
-not_leaves es n k f e = let z : true ≡ false = sym (from_leaves es n k e) ∙ f in absurd (cc)
-
-pub link_last : (es : List (ℕ × ℕ)) (n k : ℕ) → Last es n k (bound (link es n k))
-link_last es n k = told (picks (leaves es n) k) refl
-  where
-    told : (xs : List ℕ) → picks (leaves es n) k ≡ xs → Last es n k (bound (first xs))
-    told [] e = record {
-      below = omega arith;
-      here = λ j s. absurd (omega arith);
-      above = λ i ge lt. not_leaves es n i (picks_none (leaves es n) k e i lt);
-    }
-    told (x ∷ xs) e =
-        let f = picks_front (leaves es n) k x xs e in
-        record {
-          below = omega (arith, f.below);
-          here = λ j s. let z : x ≡ j = omega arith in subst (λ i. from es i ≡ n) z (leaves_from es n x f.has);
-          above = λ i ge lt. not_leaves es n i (f.none i (omega arith) lt);
-        }
-
--- a link leads to a place below
-pub link_below : (es : List (ℕ × ℕ)) (n k x : ℕ) → link es n k ≡ Some x → x < k
-link_below es n k x e = let h = (link_last es n k).below in let b : bound (link es n k) ≡ suc x = ap bound e in omega arith
 
 -- where no edge goes from the node, no link leads on
 pub link_none : (es : List (ℕ × ℕ)) (n k : ℕ) → ((i : ℕ) → i < k → from es i ≢ n) → link es n k ≡ None

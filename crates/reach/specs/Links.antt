@@ -9,9 +9,7 @@
 --     table es, olders es         the ends of each edge, and the link to the next older edge
 --     Within es                   the edges are between nodes of the graph
 --     NewestLinked, OlderLinked the links to the newest and to the next older edges are right
---     bound r                     one more than the number r, or 0 where there is none
---     Last es n k l               l is one more than the place of the last of the first k edges that goes from n, or 0
-use Rattle.std.specs.Prelude.{◌≡◌, ℕ, zero, suc, ◌<◌, ◌≤◌, Bool, cond, List, [], ◌∷◌, map, length, Option, Some, None, ◌==◌, ◌≢◌, slice_index_or}
+use Rattle.std.specs.Prelude.{◌≡◌, ℕ, zero, suc, ◌<◌, Bool, cond, List, [], ◌∷◌, map, length, Option, Some, None, ◌==◌, slice_index_or}
 use Rattle.reach.specs.declared.graph.LinkedEdge.{LinkedEdge}
 
 abbrev pub places : ℕ
@@ -55,12 +53,3 @@ NewestLinked es newest = (n : ℕ) → n < places → slice_index_or newest n No
 
 abbrev pub OlderLinked : List (ℕ × ℕ) → List (Option ℕ) → Type 0
 OlderLinked es older = (k : ℕ) → k < length es → slice_index_or older k None ≡ link es (from es k) k
-
-abbrev pub bound : Option ℕ → ℕ
-bound None = 0
-bound (Some k) = suc k
-
-pub record Last (es : List (ℕ × ℕ)) (n k l : ℕ) : Type 0 where
-  pub below : l ≤ k
-  pub here : (j : ℕ) → l ≡ suc j → from es j ≡ n
-  pub above : (i : ℕ) → l ≤ i → i < k → from es i ≢ n

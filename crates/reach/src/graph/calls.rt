@@ -1,5 +1,5 @@
 ghost use Rattle.std.specs.Prelude.{◌≡◌, ◌+◌, ◌<◌, ◌≤◌, [], ◌∷◌, ◌++◌, length, if◌then◌else◌};
-ghost use Rattle.reach.specs.Links.{places, from as leaving, leaves, picks, behind, Last};
+ghost use Rattle.reach.specs.Links.{places, leaves, picks, behind};
 ghost use Rattle.reach.specs.Paths.{edges, taken, Edge, Reached};
 ghost use Rattle.reach.specs.Searches.{Room, Found, Closed, Clear, Listed};
 
@@ -44,29 +44,6 @@ impl Graph {
         ensures { behind (leaves (edges result.walk.now) result.node) result.next ≡ picks (leaves (edges self.now) node) (length (edges self.now)) }
     {
         Places::from_node(self, node)
-    }
-
-    // One more than the place of the newest edge from a node; 0 where there is none.
-    pub fn newest(&self, node: usize) -> usize
-        ensures { Last (edges self.now) node (length (edges self.now)) result }
-    {
-        match self.newest_from(node) {
-            Some(place) => place + 1,
-            None => 0,
-        }
-    }
-
-    // One more than the place of the next older edge from the node that this edge goes from; 0 where there is none, and past the edges.
-    pub fn older(&self, edge: usize) -> usize
-        ensures { edge < length (edges self.now) → Last (edges self.now) (leaving (edges self.now) edge) edge result }
-    {
-        if edge >= self.edges.len() {
-            return 0;
-        }
-        match self.next_older(edge) {
-            Some(place) => place + 1,
-            None => 0,
-        }
     }
 
     // Marks exactly the nodes that can be come to from `from` by one or more edges, each to a node that has a mark.

@@ -1,7 +1,6 @@
 use Rattle.std.proofs.Common.{ℕ, ◌<◌, List, length, subst, arith}
 use Rattle.reach.specs.Paths.{edges}
-use Rattle.answers.specs.Questions.{steps, Snapshots, Conflicts}
-use Rattle.answers.specs.declared.dependences.Towards.TheVariants.{Writers}
+use Rattle.answers.specs.Questions.{Towards, steps, Snapshots, Conflicts}
 use Rattle.digest.proofs.FactLaws.{told_facts, told_sound}
 use Rattle.answers.proofs.AnswerLaws.{snapshots_decide}
 use Rattle.answers.proofs.DirtyLaws.{reads_decide}
@@ -9,7 +8,7 @@ use Rattle.answers.proofs.ConflictLaws.{conflicts_decide}
 use Rattle.answers.proofs.answering.of_entries.Goals as goal
 
 pub returns : goal.returns
-returns c ls told =
+returns g c ls told =
     let es = c.args.entries.now in
     let ds = c.dones-dones.result in
     let f = told_facts told in
@@ -17,11 +16,12 @@ returns c ls told =
     let dones = λ (o : ℕ) (lt : o < length es). c.dones-dones.ensures o (omega (arith, c.requires.1)) in
     let cons = c.search_all-searched.result.cons in
     let wcf = c.search_all-searched.result.wcf in
-    let gs = steps Writers es (length es) in
-    let snap = subst (λ (gs : List (ℕ × ℕ)). Snapshots es gs (length es) (length es) cons) c.dependences-writers.ensures c.search_all-searched.ensures.cons in
-    let conf = subst (λ (hs : List (ℕ × ℕ)). Conflicts es ds gs hs (length es) (length es) wcf) c.dependences-readers.ensures
-    (subst (λ (gs : List (ℕ × ℕ)). Conflicts es ds gs (edges c.dependences-readers.result) (length es) (length es) wcf) c.dependences-writers.ensures
-    c.search_all-searched.ensures.wcf) in
+    let gs = steps Towards.Writers es (length es) in
+    let hs = edges c.of-dependences.result.readers in
+    let found = rw c.new-listed.ensures at c.search_all-searched.ensures in
+    let snap = subst (λ (gs : List (ℕ × ℕ)). Snapshots es gs (length es) (length es) cons) c.of-dependences.ensures.writers found.cons in
+    let conf = subst (λ (hs : List (ℕ × ℕ)). Conflicts es ds gs hs (length es) (length es) wcf) c.of-dependences.ensures.readers
+    (subst (λ (gs : List (ℕ × ℕ)). Conflicts es ds gs hs (length es) (length es) wcf) c.of-dependences.ensures.writers found.wcf) in
     record {
       aca = reads_decide ls es ds f s dones c.has_dirty_read-dirty.result c.has_dirty_read-dirty.ensures;
       cons = snapshots_decide ls es f s cons snap;

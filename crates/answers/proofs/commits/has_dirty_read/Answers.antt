@@ -6,8 +6,8 @@ use Rattle.answers.proofs.commits.has_dirty_read.Goals as goal
 pub loop-place-init : goal.loop-place-init
 loop-place-init c = none_below _
 
-pub returns-then-done-eq0 : goal.returns-then-done-eq0
-returns-then-done-eq0 c = sym (some_hit _ _ c.loop-place.place c.loop-place-test.true (grind (arith, nat_tests)))
+pub returns-then-not-is_earlier : goal.returns-then-not-is_earlier
+returns-then-not-is_earlier c = sym (some_hit _ _ c.loop-place.place c.loop-place-test.true (grind (arith, nat_tests)))
 
 pub loop-place-preserved : goal.loop-place-preserved
 loop-place-preserved c = none_more _ c.loop-place.place (grind (arith, nat_tests)) c.loop-place.invariant

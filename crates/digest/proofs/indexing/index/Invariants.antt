@@ -1,20 +1,13 @@
-use Rattle.std.proofs.Common.{◌≡◌, ◌-◌, ◌≤◌, length, take}
+use Rattle.std.proofs.Common.{◌≡◌, ◌≤◌, length}
 use Rattle.records.specs.Parts.{records_in}
-use Rattle.reach.specs.Paths.{edges}
-use Rattle.digest.specs.Links.{tx_node, Linked}
 use Rattle.digest.specs.Told.{Indexed}
 use Rattle.digest.proofs.indexing.index.Given as goal
 
 abbrev pub invariant-loop-part : goal.invariant-loop-part
-invariant-loop-part l =
-    (l.reader.bytes.now ≡ l.file)
-    × (l.reader.place ≡ l.count)
-    × (l.count ≤ records_in l.file)
-    × (l.count ≤ length l.entries)
-    × (l.count ≤ 2048)
-    × (length l.entries ≡ length l.initial.entries)
-    × Linked tx_node (take l.count l.entries) l.count (edges l.links)
-    × Indexed l.file l.count (take l.count l.entries)
-
-abbrev pub decreases-loop-part : goal.decreases-loop-part
-decreases-loop-part l = records_in l.file - l.count
+invariant-loop-part g l =
+    (goal.iterator-loop-part g).can_next l.part-iterator × (goal.iterator-loop-part g).is_finite l.part-iterator
+    × (l.part-iterator.bytes.now ≡ l.file)
+    × (l.part-iterator.place ≡ length l.register.entries.items)
+    × (length l.register.entries.items ≤ records_in l.file)
+    × (length l.register.entries.items ≤ 2048)
+    × Indexed l.file (length l.register.entries.items) l.register.entries.items

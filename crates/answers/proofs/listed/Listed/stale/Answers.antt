@@ -1,0 +1,61 @@
+use Rattle.std.proofs.Common.{◌&&◌, eqb, length, sym, ap, ◌∙◌, arith}
+use Rattle.std.proofs.lemmas.Bool.Decides.{nat_tests}
+use Rattle.reach.specs.Links.{picks}
+use Rattle.rules.specs.Rules.{is_read}
+use Rattle.digest.specs.Entries.{at}
+use Rattle.digest.proofs.LinkLaws.{ahead_all, ahead_here, ahead_more, ahead_none}
+use Rattle.answers.specs.Questions.{outdated, own_node}
+use Rattle.answers.proofs.TestLaws.{some_hit}
+use Rattle.answers.proofs.WalkLaws.{none_at_all, only_own_reads}
+use Rattle.answers.proofs.listed.Listed.stale.Goals as goal
+
+pub loop-place-init : goal.loop-place-init
+loop-place-init g c =
+    let r = c.args.self.now in
+    let es = r.entries.now in
+    let ms = c.args.marks.now in
+    let o = c.args.owner in
+    (tt, tt, ahead_all (g.W.Walk.count r.own) (g.W.Walk.comes r.own) own_node es r.owners (λ j. is_read (at es j).kind && eqb (at es j).owner o && outdated es ms (at es j)) o (length es) (omega (arith)) (only_own_reads es ms o) _ (rw c.into_iter-place-iterator.ensures.into_iter_gives (c.from_node-place-items.ensures ∙ ap (picks (g.W.Walk.comes r.own o)) r.owners.each)))
+
+pub bounds-self-place : goal.bounds-self-place
+bounds-self-place g c =
+    let r = c.args.self.now in
+    let es = r.entries.now in
+    let ms = c.args.marks.now in
+    let o = c.args.owner in
+    let here = ahead_here (g.W.Walk.count r.own) (g.W.Walk.comes r.own) own_node es r.owners (λ j. is_read (at es j).kind && eqb (at es j).owner o && outdated es ms (at es j)) o (length es) (omega (arith)) (only_own_reads es ms o) c.in-Some.place _ _ c.in-Some.ensures.steps c.loop-place.invariant.2 in
+    omega (arith, here)
+
+pub offset_bounds-self-place : goal.offset_bounds-self-place
+offset_bounds-self-place g c =
+    let r = c.args.self.now in
+    let es = r.entries.now in
+    let ms = c.args.marks.now in
+    let o = c.args.owner in
+    let here = ahead_here (g.W.Walk.count r.own) (g.W.Walk.comes r.own) own_node es r.owners (λ j. is_read (at es j).kind && eqb (at es j).owner o && outdated es ms (at es j)) o (length es) (omega (arith)) (only_own_reads es ms o) c.in-Some.place _ _ c.in-Some.ensures.steps c.loop-place.invariant.2 in
+    omega (arith, here, r.few)
+
+pub loop-place-preserved : goal.loop-place-preserved
+loop-place-preserved g c =
+    let r = c.args.self.now in
+    let es = r.entries.now in
+    let ms = c.args.marks.now in
+    let o = c.args.owner in
+    (tt, tt, ahead_more (g.W.Walk.count r.own) (g.W.Walk.comes r.own) own_node es r.owners (λ j. is_read (at es j).kind && eqb (at es j).owner o && outdated es ms (at es j)) o (length es) (omega (arith)) (only_own_reads es ms o) c.in-Some.place _ _ c.in-Some.ensures.steps c.loop-place.invariant.2 (grind (arith, nat_tests)))
+
+pub returns-then-outdated : goal.returns-then-outdated
+returns-then-outdated g c =
+    let r = c.args.self.now in
+    let es = r.entries.now in
+    let ms = c.args.marks.now in
+    let o = c.args.owner in
+    let here = ahead_here (g.W.Walk.count r.own) (g.W.Walk.comes r.own) own_node es r.owners (λ j. is_read (at es j).kind && eqb (at es j).owner o && outdated es ms (at es j)) o (length es) (omega (arith)) (only_own_reads es ms o) c.in-Some.place _ _ c.in-Some.ensures.steps c.loop-place.invariant.2 in
+    sym (some_hit (λ j. is_read (at es j).kind && eqb (at es j).owner o && outdated es ms (at es j)) (length es) c.in-Some.place here (grind (arith, nat_tests)))
+
+pub returns : goal.returns
+returns g c =
+    let r = c.args.self.now in
+    let es = r.entries.now in
+    let ms = c.args.marks.now in
+    let o = c.args.owner in
+    sym (none_at_all (λ j. is_read (at es j).kind && eqb (at es j).owner o && outdated es ms (at es j)) (length es) (ahead_none (g.W.Walk.count r.own) (g.W.Walk.comes r.own) own_node es r.owners (λ j. is_read (at es j).kind && eqb (at es j).owner o && outdated es ms (at es j)) o (length es) (omega (arith)) (only_own_reads es ms o) _ c.in-None.ensures.steps.0 c.loop-place.invariant.2))

@@ -1,3 +1,0 @@
-pub mod Entries
-pub mod Told
-pub mod Judging

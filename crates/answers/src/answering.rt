@@ -10,20 +10,10 @@ use super::commits::{dones, has_dirty_read};
 use super::dependences::Dependences;
 use super::listed::Listed;
 use digest::{Entry, Listing, index};
-use reach::Graph;
 use verdicts::Verdict;
 
 // What the judge says of a file that is accepted with these marks, or whose records, no more than there are marks for, are good and in place;
-// what it says of any other means nothing. No mark is left set. Entries are come by along links.
-pub fn judged(file: &[u8], marks: &mut [u32]) -> Verdict
-    ensures verdict { (ls : List Line) → accepted file.now (length marks.old) ≡ Ok ls → Judged ls result }
-    ensures good { records_in file.now ≤ 2048 → records_in file.now ≤ length marks.old → (ls : List Line) → scanned file.now (records_in file.now) ≡ Ok ls → Judged ls result }
-    ensures clear { marks.new ≡ replicate (length marks.old) 0 }
-{
-    judged_by::<Graph>(file, marks)
-}
-
-// The same, by any listing.
+// what it says of any other means nothing. No mark is left set. Entries are come by in any listing.
 pub fn judged_by<W: Listing>(file: &[u8], marks: &mut [u32]) -> Verdict
     ensures verdict { (ls : List Line) → accepted file.now (length marks.old) ≡ Ok ls → Judged ls result }
     ensures good { records_in file.now ≤ 2048 → records_in file.now ≤ length marks.old → (ls : List Line) → scanned file.now (records_in file.now) ≡ Ok ls → Judged ls result }

@@ -11,4 +11,4 @@ mod marks;
 mod searches;
 mod snapshots;
 
-pub use answering::{judged, judged_by};
+pub use answering::judged_by;

@@ -4,7 +4,8 @@
 mod judge_file;
 pub mod refused;
 
-pub use judge_file::judge;
+pub use digest::Listing;
+pub use judge_file::{judge, judge_by};
 pub use records::{Kind, Line, PlacedFault, RECORD_SIZE, RecordFault, RecordReader};
 pub use refused::Refused;
 pub use rules::{JudgeFault, LARGEST_FILE, judge_fault, whole, whole_records};

@@ -4,9 +4,8 @@ ghost use Rattle.rules.specs.Rules.{accepted};
 ghost use Rattle.history.specs.Judging.{Answers};
 
 use super::every::EveryPlace;
-use answers::judged_by;
+use history::judge_by;
 use rules::JudgeFault;
-use scan::accept;
 use verdicts::Verdict;
 
 // Whether a history file obeys the rules: of each property whether it holds, or why the file is not judged. The marks are
@@ -15,7 +14,5 @@ pub fn judge(file: &[u8], marks: &mut [u32]) -> Result<Verdict, JudgeFault>
     ensures answer { Answers (accepted file.now (length marks.old)) result }
     ensures clear { marks.new ≡ replicate (length marks.old) 0 }
 {
-    marks.fill(0);
-    accept(file, marks.len())?;
-    Ok(judged_by::<EveryPlace>(file, marks))
+    judge_by::<EveryPlace>(file, marks)
 }

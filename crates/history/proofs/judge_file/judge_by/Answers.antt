@@ -6,7 +6,7 @@ use Rattle.scan.specs.Scanning.{answered}
 use Rattle.verdicts.specs.declared.verdict.Verdict.{Verdict}
 use Rattle.verdicts.specs.Verdicts.{Judged}
 use Rattle.history.specs.Judging.{Answers}
-use Rattle.plain.proofs.judge_file.judge.Goals as goal
+use Rattle.history.proofs.judge_file.judge_by.Goals as goal
 
 -- the verdict on the lines of an accepted file is the answer to it
 answered_by : (a : Result (List Line) JudgeFault) (v : Verdict) → answered a ≡ Ok tt → ((ls : List Line) → a ≡ Ok ls → Judged ls v) → Answers a (Ok v)
@@ -14,7 +14,7 @@ answered_by (Ok ls) v e j = (v, refl, j ls refl)
 answered_by (Err f) v e j = let z : ◌≡◌ {A = ℕ} 0 1 = cc in absurd (omega arith)
 
 pub returns : goal.returns
-returns c =
+returns g c =
     let bs = c.args.file.now in
     let long : length c.fill.new.self ≡ length c.args.marks.now = c.fill.ensures.len in
     record {

@@ -1,26 +1,31 @@
 -- Shelves just made, and when one fits. Assumes nothing.
---     no_cards                        the shelf of no cards
---     fresh cards width shares n      each card at version 0 alone, n free places in every drawer, drawers shared as told
---     each_own a b                    each card has a drawer of its own
---     all_one a b                     all cards are in one drawer
---     within n m                      n is from 1 to m
---     size_fits m cards width n       cards and width are from 1 to 256, and places from 1 to m
+--     no_cards                the shelf of no cards
+--     fresh s shares          a shelf of the size s: each card at version 0 alone, all places free, drawers shared as told
+--     made fits s shares      the fresh shelf if it fits, else the shelf of no cards
+--     each_own a b            each card has a drawer of its own
+--     all_one a b             all cards are in one drawer
+--     within n m              n is from 1 to m
+--     size_fits m s           the cards and the width are from 1 to 256, and the places from 1 to m
 use Rattle.std.specs.Prelude.{ℕ, Bool, true, false, cond, ◌&&◌, [], ◌∷◌, ◌==◌, nat_le, nat_lt}
 use Rattle.stamps.specs.Counts.{room}
 use Rattle.shelf.specs.Meaning.{Meaning, first_version}
+use Rattle.shelf.specs.declared.size.Size.{Size}
 
 abbrev pub no_cards : Meaning
 no_cards = record { cards = 0; width = 0; line = λ _. []; shares = λ _ _. false; free = λ _. 0 }
 
-abbrev pub fresh : ℕ → ℕ → (ℕ → ℕ → Bool) → ℕ → Meaning
-fresh cards width shares places =
+abbrev pub fresh : Size → (ℕ → ℕ → Bool) → Meaning
+fresh s shares =
     record {
-      cards = cards;
-      width = width;
-      line = λ c. cond (nat_lt c cards) (first_version ∷ []) [];
-      shares = λ a b. nat_lt a cards && (nat_lt b cards && shares a b);
-      free = λ c. cond (nat_lt c cards) places 0;
+      cards = s.cards;
+      width = s.width;
+      line = λ c. cond (nat_lt c s.cards) (first_version ∷ []) [];
+      shares = λ a b. nat_lt a s.cards && (nat_lt b s.cards && shares a b);
+      free = λ c. cond (nat_lt c s.cards) s.places 0;
     }
+
+abbrev pub made : Bool → Size → (ℕ → ℕ → Bool) → Meaning
+made fits s shares = cond fits (fresh s shares) no_cards
 
 abbrev pub each_own : ℕ → ℕ → Bool
 each_own a b = a == b
@@ -31,5 +36,5 @@ all_one a b = true
 abbrev pub within : ℕ → ℕ → Bool
 within n m = nat_le 1 n && nat_le n m
 
-abbrev pub size_fits : ℕ → ℕ → ℕ → ℕ → Bool
-size_fits m cards width places = within cards room && (within width room && within places m)
+abbrev pub size_fits : ℕ → Size → Bool
+size_fits m s = within s.cards room && (within s.width room && within s.places m)

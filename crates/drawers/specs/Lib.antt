@@ -1,3 +1,2 @@
 pub mod Fresh
-pub mod Lists
 pub mod Places

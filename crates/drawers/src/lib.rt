@@ -1,6 +1,10 @@
-// What a row and a pool keep their versions in.
+// A shelf that keeps its versions in places, whatever drawers the places belong to.
 #![tactic(auto)]
 
+mod giving;
+mod placed;
 mod places;
 
-pub use places::{Places, Spot, Written, stamp_from};
+pub use giving::{Drawers, is_within};
+pub use placed::PlacedShelf;
+pub use places::{Places, Written};

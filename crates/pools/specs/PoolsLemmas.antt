@@ -169,7 +169,7 @@ pool_empty size owner at =
       free = fun_ext (λ c. cond-false (nat_lt c 0) (size - 0) 0 (le-ltb c 0 (omega arith))) z;
     }
 
-pub pool_fresh : (cards width size : ℕ) (owner : ℕ → ℕ) (at : ℕ → Version) → pool_of cards width size 0 owner at ≡ fresh cards width all_one size
+pub pool_fresh : (cards width size : ℕ) (owner : ℕ → ℕ) (at : ℕ → Version) → pool_of cards width size 0 owner at ≡ fresh (record { cards = cards; width = width; places = size }) all_one
 pool_fresh cards width size owner at =
     λ z.
     record {

@@ -5,4 +5,4 @@ mod chain;
 mod pool;
 
 pub use chain::{Chain, Link};
-pub use pool::{PoolMemory, PoolShelf};
+pub use pool::{PoolDrawer, PoolMemory, PoolShelf};

@@ -1,13 +1,17 @@
-// A shelf with one drawer for all its cards.
+// One drawer for all cards of a shelf.
 ghost use Rattle.std.specs.Prelude.{◌≡◌, ℕ, ◌<◌, ◌≤◌, true, vec_len};
 ghost use Rattle.pools.specs.Chains.{known, newest_known};
 
 use crate::chain::{Chain, Link};
-use drawers::Places;
+use drawers::{PlacedShelf, Places};
+use shelf::Size;
 
 mod answers;
 mod calls;
 mod links;
+
+// A shelf with one drawer for all its cards.
+pub type PoolShelf = PlacedShelf<PoolDrawer>;
 
 // The memory of a pool shelf: an entry for each card, and the places of its one drawer.
 #[derive(Drop)]
@@ -19,23 +23,20 @@ pub struct PoolMemory {
 
 // A version is put into the next place, whatever its card. Links lead from each to the older ones of its card.
 #[derive(Drop)]
-pub struct PoolShelf {
-    cards: u32,
-    width: u32,
-    // How many places there are, and how many are taken.
-    size: u32,
+pub struct PoolDrawer {
+    size: Size,
+    // How many places are taken.
     used: u32,
     newest: Vec<Link>,
     chains: Vec<Chain>,
     places: Places,
-    ghost few: { cards ≤ 256 },
-    ghost narrow: { width ≤ 256 },
-    ghost sized: { size ≤ 65535 },
-    ghost filled: { used ≤ size },
-    ghost listed: { cards ≤ vec_len newest },
-    ghost chained: { size ≤ vec_len chains },
-    ghost entered: { size ≤ vec_len places.entries },
-    ghost stamped: { size ≤ vec_len places.stamps },
+    ghost few: { size.cards ≤ 256 },
+    ghost narrow: { size.width ≤ 256 },
+    ghost sized: { size.places ≤ 65535 },
+    ghost filled: { used ≤ size.places },
+    ghost listed: { size.cards ≤ vec_len newest },
+    ghost chained: { size.places ≤ vec_len chains },
+    ghost written: { size.places ≤ vec_len places.written },
     ghost linked: { (q : ℕ) → q < used → known chains.items q ≡ true },
-    ghost current: { (c : ℕ) → c < cards → newest_known chains.items used newest.items c ≡ true },
+    ghost current: { (c : ℕ) → c < size.cards → newest_known chains.items used newest.items c ≡ true },
 }

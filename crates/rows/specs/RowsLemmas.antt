@@ -140,7 +140,7 @@ row_empty depth used at =
       free = fun_ext (λ c. cond-false (nat_lt c 0) (depth - used c) 0 (le-ltb c 0 (omega arith))) z;
     }
 
-pub row_fresh : (cards width depth : ℕ) (used : ℕ → ℕ) (at : ℕ → Version) → ((c : ℕ) → used c ≡ 0) → row_of cards width depth used at ≡ fresh cards width each_own depth
+pub row_fresh : (cards width depth : ℕ) (used : ℕ → ℕ) (at : ℕ → Version) → ((c : ℕ) → used c ≡ 0) → row_of cards width depth used at ≡ fresh (record { cards = cards; width = width; places = depth }) each_own
 row_fresh cards width depth used at none =
     λ z.
     record {

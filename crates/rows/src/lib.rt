@@ -3,4 +3,4 @@
 
 mod row;
 
-pub use row::{RowMemory, RowShelf};
+pub use row::{RowDrawers, RowMemory, RowShelf};

@@ -6,29 +6,25 @@ ghost use Rattle.shelf.specs.Refusals.{cause_number, check_number};
 #[derive(Clone, Copy, PartialEq, Eq, Debug)]
 pub enum PutRefusal {
     // The shelf has no such card.
-    NoCard,
+    NoCard = 1,
     // The list of counts is longer than the shelf's width, or has a count above 65,535.
-    BadStamp,
+    BadStamp = 2,
     // The card's drawer has no free place.
-    NoPlace,
+    NoPlace = 3,
 }
 
 // Why a shelf is not made.
 #[derive(Clone, Copy, PartialEq, Eq, Debug)]
 pub enum CheckRefusal {
     // The cards, the width, the places or the memory do not fit.
-    NoFit,
+    NoFit = 1,
 }
 
 impl PutRefusal {
     pub fn number(self) -> u32
         ensures { result ≡ cause_number self }
     {
-        match self {
-            PutRefusal::NoCard => 1,
-            PutRefusal::BadStamp => 2,
-            PutRefusal::NoPlace => 3,
-        }
+        self as u32
     }
 }
 
@@ -36,8 +32,6 @@ impl CheckRefusal {
     pub fn number(self) -> u32
         ensures { result ≡ check_number self }
     {
-        match self {
-            CheckRefusal::NoFit => 1,
-        }
+        self as u32
     }
 }

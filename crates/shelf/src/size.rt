@@ -8,3 +8,12 @@ pub struct Size {
     // How many places each drawer has.
     pub places: u32,
 }
+
+impl Size {
+    // The size of a shelf of no cards.
+    pub const NOTHING: Size = Size {
+        cards: 0,
+        width: 0,
+        places: 0,
+    };
+}

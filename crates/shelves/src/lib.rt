@@ -4,8 +4,8 @@
 #[cfg(test)]
 mod tests;
 
-pub use drawers::{Places, Written};
-pub use pools::{Chain, Link, PoolMemory, PoolShelf};
-pub use rows::{RowMemory, RowShelf};
+pub use drawers::{Drawers, PlacedShelf, Places, Written};
+pub use pools::{Chain, Link, PoolDrawer, PoolMemory, PoolShelf};
+pub use rows::{RowDrawers, RowMemory, RowShelf};
 pub use shelf::{CheckRefusal, PutRefusal, Shelf, Size};
 pub use splits::{Side, SplitShelf};

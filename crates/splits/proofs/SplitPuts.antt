@@ -1,5 +1,5 @@
 -- Putting into a split is putting into one of its sides. Assumes nothing.
-use Rattle.std.proofs.Common.{◌≡◌, ℕ, pred, ◌+◌, ◌<◌, ◌≤◌, min, Bool, true, false, cond, ◌&&◌, eqb, ltb, leb, List, [], ◌∷◌, ◌++◌, map, length, is_ok, Some, None, Ok, Err, Option, sym, refl, ap, ◌∙◌, ⊎_elim, arith}
+use Rattle.std.proofs.Common.{◌≡◌, ℕ, pred, ◌+◌, ◌-◌, ◌<◌, ◌≤◌, min, Bool, true, false, cond, ◌&&◌, eqb, ltb, leb, List, [], ◌∷◌, ◌++◌, map, length, is_ok, Some, None, Ok, Err, Option, sym, refl, ap, ◌∙◌, subst, ⊎_elim, arith}
 use mathlib.Core.Path.{fun_ext}
 use Rattle.std.proofs.lemmas.List.{map_push}
 use Rattle.std.proofs.lemmas.Bool.{cases_lt, cond-true, cond-false, lt-ltb, le-ltb, lt-leb, le-leb, ne_eqb, and_left}
@@ -225,3 +225,26 @@ kept p c =
       answer = answer_split p c;
       after = after_split p c;
     }
+
+-- where a card is kept, by the numbers of cards that the sides told
+module _ (p : Parts) (c a n : ℕ) (left : a ≡ (p Left).cards) (whole : n ≡ (join p).cards) where
+  pub kept_nowhere : n ≤ c → Kept p c None
+  unfolding join
+  kept_nowhere past = subst (Kept p c) (cond-false (ltb c (shown p)) _ _ (le-ltb c (shown p) (omega (arith, whole)))) (kept p c)
+
+  pub kept_left : c < n → c < a → Kept p c (Some (Left, record { 0 = c }))
+  unfolding join
+  kept_left inside low =
+      subst (Kept p c)
+      (cond-true (ltb c (shown p)) _ _ (lt-ltb c (shown p) (omega (arith, whole)))
+      ∙ cond-true (ltb c (p Left).cards) _ _ (lt-ltb c (p Left).cards (omega (arith, left))))
+      (kept p c)
+
+  pub kept_right : c < n → a ≤ c → Kept p c (Some (Right, record { 0 = c - a }))
+  unfolding join
+  kept_right inside high =
+      subst (Kept p c)
+      (cond-true (ltb c (shown p)) _ _ (lt-ltb c (shown p) (omega (arith, whole)))
+      ∙ cond-false (ltb c (p Left).cards) _ _ (le-ltb c (p Left).cards (omega (arith, left)))
+      ∙ (λ z. Some (Right, record { 0 = c - sym left z })))
+      (kept p c)

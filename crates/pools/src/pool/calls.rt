@@ -1,13 +1,12 @@
-// Making a pool shelf.
-ghost use Rattle.std.specs.Prelude.{◌≡◌, ◌≤◌, IfOk, if◌then◌else◌, Ok, Err, vec_len};
-ghost use Rattle.shelf.specs.declared.refusal.CheckRefusal.TheVariants.{NoFit};
+// Making the drawer of a pool shelf.
+ghost use Rattle.std.specs.Prelude.{◌≡◌, ◌≤◌, IfOk, vec_len};
 ghost use Rattle.drawers.specs.Fresh.{no_cards, fresh, all_one};
-ghost use Rattle.pools.specs.PoolMeaning.{pool_meaning, pool_fits, pool_made};
+ghost use Rattle.pools.specs.PoolMeaning.{pool_meaning, pool_fits};
 
 use crate::chain::{Chain, Link};
-use crate::pool::{PoolMemory, PoolShelf};
-use drawers::Places;
-use shelf::{CheckRefusal, Size};
+use crate::pool::{PoolDrawer, PoolMemory};
+use drawers::{Drawers, Places, is_within};
+use shelf::Size;
 use stamps::CardNo;
 use std::alloc::{AllocError, Global};
 
@@ -20,7 +19,7 @@ const FIRST: Link = Link {
 impl PoolMemory {
     // Memory for this many cards and this many places, or that it is wanting.
     pub fn reserve(heap: Global, cards: u32, places: u32) -> Result<PoolMemory, AllocError>
-        ensures { IfOk result (λ m. (vec_len m.newest ≡ cards) × (vec_len m.chains ≡ places) × (vec_len m.places.entries ≡ places) × (vec_len m.places.stamps ≡ places)) }
+        ensures { IfOk result (λ m. (vec_len m.newest ≡ cards) × (vec_len m.chains ≡ places) × (vec_len m.places.written ≡ places)) }
     {
         let newest = vec![in heap; FIRST; cards as usize]?;
         let unused = Chain {
@@ -36,53 +35,25 @@ impl PoolMemory {
             places,
         })
     }
+
+    // Whether a pool of this size fits: 1 to 256 cards, stamps of 1 to 256 counts and 1 to 65,535 places.
+    pub(crate) fn fits(&self, size: Size) -> bool
+        ensures { result ≡ pool_fits self.now size }
+    {
+        is_within(size, PoolDrawer::MOST_PLACES)
+            && self.newest.len() >= size.cards as usize
+            && self.chains.len() >= size.places as usize
+            && self.places.written.len() >= size.places as usize
+    }
 }
 
-impl PoolShelf {
-    // Whether a shelf of this size fits into the memory: 1 to 256 cards, stamps of 1 to 256 counts and 1 to 65,535 places.
-    pub fn check(memory: &PoolMemory, size: Size) -> Result<(), CheckRefusal>
-        ensures { result ≡ (if pool_fits memory.now size.cards size.width size.places then Ok tt else Err NoFit) }
-    {
-        let Size {
-            cards,
-            width,
-            places,
-        } = size;
-        let sized = 1 <= cards
-            && cards <= 256
-            && 1 <= width
-            && width <= 256
-            && 1 <= places
-            && places <= 65535;
-        if !sized || memory.newest.len() < cards as usize {
-            return Err(CheckRefusal::NoFit);
-        }
-        let wanted = places as usize;
-        if memory.chains.len() < wanted
-            || memory.places.entries.len() < wanted
-            || memory.places.stamps.len() < wanted
-        {
-            return Err(CheckRefusal::NoFit);
-        }
-        Ok(())
-    }
-
-    // A shelf with each card at version 0 alone and all places free; a shelf of no cards where this does not fit.
-    pub fn new(memory: PoolMemory, size: Size) -> PoolShelf
-        ensures { pool_meaning result ≡ pool_made memory size.cards size.width size.places }
-    {
-        match PoolShelf::check(&memory, size) {
-            Ok(()) => PoolShelf::empty(memory, size.cards, size.width, size.places),
-            Err(_) => PoolShelf::empty(memory, 0, 0, 0),
-        }
-    }
-
-    // A shelf of this size with all places free.
-    fn empty(memory: PoolMemory, cards: u32, width: u32, size: u32) -> PoolShelf
-        requires small { (cards ≤ 256) × (width ≤ 256) × (size ≤ 65535) }
-        requires roomy { (cards ≤ vec_len memory.newest) × (size ≤ vec_len memory.chains) × (size ≤ vec_len memory.places.entries) × (size ≤ vec_len memory.places.stamps) }
-        ensures free { pool_meaning result ≡ fresh cards width all_one size }
-        ensures none { cards ≡ 0 → width ≡ 0 → pool_meaning result ≡ no_cards }
+impl PoolDrawer {
+    // A drawer of this size with all places free.
+    pub(crate) fn opened(memory: PoolMemory, size: Size) -> PoolDrawer
+        requires small { (size.cards ≤ 256) × (size.width ≤ 256) × (size.places ≤ 65535) }
+        requires roomy { (size.cards ≤ vec_len memory.newest) × (size.places ≤ vec_len memory.chains) × (size.places ≤ vec_len memory.places.written) }
+        ensures free { pool_meaning result ≡ fresh size all_one }
+        ensures none { size.cards ≡ 0 → size.width ≡ 0 → pool_meaning result ≡ no_cards }
     {
         let PoolMemory {
             newest: mut newest,
@@ -90,9 +61,7 @@ impl PoolShelf {
             places,
         } = memory;
         newest.fill(FIRST);
-        PoolShelf {
-            cards,
-            width,
+        PoolDrawer {
             size,
             used: 0,
             newest,

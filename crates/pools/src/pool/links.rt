@@ -1,25 +1,25 @@
 // Going along the links of a pool, and adding to them.
 ghost use Rattle.std.specs.Prelude.{◌≡◌, ◌<◌, ◌≤◌};
-ghost use Rattle.pools.specs.Chains.{Led, Leads, chain_at, jump_from, jump_after};
-ghost use Rattle.pools.specs.PoolMeaning.{pool_meaning, Latest};
+ghost use Rattle.pools.specs.Chains.{Led, Leads, chain_at, link_at, jump_from, jump_after};
+ghost use Rattle.pools.specs.PoolMeaning.{pool_meaning};
 ghost use Rattle.drawers.specs.Places.{version_of};
 ghost use Rattle.shelf.specs.Putting.{added};
 
 use crate::chain::{Chain, Link};
-use crate::pool::PoolShelf;
+use crate::pool::PoolDrawer;
 use drawers::Written;
-use stamps::{CardNo, Stamp, VersionNo};
+use stamps::{CardNo, VersionNo};
 
-impl PoolShelf {
+impl PoolDrawer {
     // The link to a version above 0 of a card, up to the newest.
-    pub(crate) fn link(&self, card: CardNo, newest: Link, version: VersionNo) -> Link
-        requires newest { Latest self.now card.0 newest }
+    pub(crate) fn link(&self, card: CardNo, version: VersionNo) -> Link
+        requires listed { card.0 < self.now.size.cards }
         requires above { 0 < version.0 }
-        requires there { version.0 ≤ newest.number }
+        requires there { version.0 ≤ (link_at self.now.newest.items card.0).number }
         ensures led { Led self.now.chains.items self.now.used card.0 result }
         ensures told { result.number ≡ version.0 }
     {
-        let mut at = newest;
+        let mut at = self.newest[card.0 as usize];
         while at.number > version.0 {
             at = self.chains[at.place as usize].toward(version);
         }
@@ -56,16 +56,17 @@ impl PoolShelf {
         }
     }
 
-    // Puts a version into the next place.
-    pub(crate) fn add(&mut self, card: CardNo, older: Link, written: Written, stamp: Stamp)
-        requires newest { Latest self.old card.0 older }
-        requires free { self.old.used < self.old.size }
-        ensures linked { chain_at self.new.chains.items self.old.used ≡ record { card = card; older = older; jump = jump_after self.old.chains.items older } }
-        ensures meant { pool_meaning self.new ≡ added (pool_meaning self.old) card.0 (version_of self.old.width written stamp) }
+    // Puts a card's next version into the next place.
+    pub(crate) fn append(&mut self, card: CardNo, written: Written)
+        requires listed { card.0 < self.old.size.cards }
+        requires free { self.old.used < self.old.size.places }
+        ensures linked { chain_at self.new.chains.items self.old.used ≡ record { card = card; older = link_at self.old.newest.items card.0; jump = jump_after self.old.chains.items (link_at self.old.newest.items card.0) } }
+        ensures meant { pool_meaning self.new ≡ added (pool_meaning self.old) card.0 (version_of self.old.size.width written) }
     {
+        let older = self.newest[card.0 as usize];
         let jump = self.jump_after(card, older);
         let place = self.used;
-        self.places.write(place as usize, written, stamp);
+        self.places.write(place as usize, written);
         self.chains[place as usize] = Chain { card, older, jump };
         self.newest[card.0 as usize] = older.next(place);
         self.used = place + 1;

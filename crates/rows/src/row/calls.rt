@@ -1,79 +1,46 @@
-// Making a row shelf, and what it answers.
-ghost use Rattle.std.specs.Prelude.{◌≡◌, ◌*◌, ◌≤◌, IfOk, if◌then◌else◌, Ok, Err, vec_len};
-ghost use Rattle.shelf.specs.declared.refusal.CheckRefusal.TheVariants.{NoFit};
+// Making the drawers of a row shelf.
+ghost use Rattle.std.specs.Prelude.{◌≡◌, ◌*◌, ◌≤◌, IfOk, vec_len};
 ghost use Rattle.drawers.specs.Fresh.{no_cards, fresh, each_own};
-ghost use Rattle.rows.specs.RowMeaning.{row_meaning, row_fits, row_made};
+ghost use Rattle.rows.specs.RowMeaning.{row_meaning, row_fits};
 
-use crate::row::{RowMemory, RowShelf};
-use drawers::Places;
-use shelf::{CheckRefusal, Size};
+use crate::row::{RowDrawers, RowMemory};
+use drawers::{Drawers, Places, is_within};
+use shelf::Size;
 use std::alloc::{AllocError, Global};
 
 impl RowMemory {
     // Memory for this many cards, each with this many places, or that it is wanting.
     pub fn reserve(heap: Global, cards: u32, places: u32) -> Result<RowMemory, AllocError>
-        ensures { IfOk result (λ m. (vec_len m.used ≡ cards) × (vec_len m.places.entries ≡ cards * places) × (vec_len m.places.stamps ≡ cards * places)) }
+        ensures { IfOk result (λ m. (vec_len m.used ≡ cards) × (vec_len m.places.written ≡ cards * places)) }
     {
         let used = vec![in heap; 0; cards as usize]?;
         let places = Places::reserve(heap, cards as usize * places as usize)?;
         Ok(RowMemory { used, places })
     }
+
+    // Whether drawers of this size fit: 1 to 256 cards, stamps of 1 to 256 counts and drawers of 1 to 4,095 places.
+    pub(crate) fn fits(&self, size: Size) -> bool
+        ensures { result ≡ row_fits self.now size }
+    {
+        is_within(size, RowDrawers::MOST_PLACES)
+            && self.used.len() >= size.cards as usize
+            && self.places.written.len() >= size.cards as usize * size.places as usize
+    }
 }
 
-impl RowShelf {
-    // Whether a shelf of this size fits into the memory: 1 to 256 cards, stamps of 1 to 256 counts and drawers of 1 to 4,095 places.
-    pub fn check(memory: &RowMemory, size: Size) -> Result<(), CheckRefusal>
-        ensures { result ≡ (if row_fits memory.now size.cards size.width size.places then Ok tt else Err NoFit) }
-    {
-        let Size {
-            cards,
-            width,
-            places,
-        } = size;
-        let sized = 1 <= cards
-            && cards <= 256
-            && 1 <= width
-            && width <= 256
-            && 1 <= places
-            && places <= 4095;
-        if !sized || memory.used.len() < cards as usize {
-            return Err(CheckRefusal::NoFit);
-        }
-        let wanted = cards as usize * places as usize;
-        if memory.places.entries.len() < wanted || memory.places.stamps.len() < wanted {
-            return Err(CheckRefusal::NoFit);
-        }
-        Ok(())
-    }
-
-    // A shelf with each card at version 0 alone and all places free; a shelf of no cards where this does not fit.
-    pub fn new(memory: RowMemory, size: Size) -> RowShelf
-        ensures { row_meaning result ≡ row_made memory size.cards size.width size.places }
-    {
-        match RowShelf::check(&memory, size) {
-            Ok(()) => RowShelf::empty(memory, size.cards, size.width, size.places),
-            Err(_) => RowShelf::empty(memory, 0, 0, 0),
-        }
-    }
-
-    // A shelf of this size with all places free.
-    fn empty(memory: RowMemory, cards: u32, width: u32, depth: u32) -> RowShelf
-        requires small { (cards ≤ 256) × (width ≤ 256) × (depth ≤ 4095) }
-        requires roomy { (cards ≤ vec_len memory.used) × (cards * depth ≤ vec_len memory.places.entries) × (cards * depth ≤ vec_len memory.places.stamps) }
-        ensures free { row_meaning result ≡ fresh cards width each_own depth }
-        ensures none { cards ≡ 0 → width ≡ 0 → row_meaning result ≡ no_cards }
+impl RowDrawers {
+    // Drawers of this size with all places free.
+    pub(crate) fn opened(memory: RowMemory, size: Size) -> RowDrawers
+        requires small { (size.cards ≤ 256) × (size.width ≤ 256) × (size.places ≤ 4095) }
+        requires roomy { (size.cards ≤ vec_len memory.used) × (size.cards * size.places ≤ vec_len memory.places.written) }
+        ensures free { row_meaning result ≡ fresh size each_own }
+        ensures none { size.cards ≡ 0 → size.width ≡ 0 → row_meaning result ≡ no_cards }
     {
         let RowMemory {
             used: mut used,
             places,
         } = memory;
         used.fill(0);
-        RowShelf {
-            cards,
-            width,
-            depth,
-            used,
-            places,
-        }
+        RowDrawers { size, used, places }
     }
 }

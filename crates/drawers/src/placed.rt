@@ -1,0 +1,147 @@
+// A shelf over drawers.
+ghost use Rattle.std.specs.Prelude.{◌≡◌, IfSome, MatchOption, is_some, if◌then◌else◌, Some, None, Ok, Err, nat_lt};
+ghost use Rattle.stamps.specs.Counts.{countable, counts_at, cut};
+ghost use Rattle.stamps.specs.Entries.{entries};
+ghost use Rattle.shelf.specs.declared.refusal.CheckRefusal.TheVariants.{NoFit};
+ghost use Rattle.shelf.specs.Meaning.{first_version, version_at};
+ghost use Rattle.drawers.specs.Places.{version_of};
+
+use crate::giving::Drawers;
+use crate::places::Written;
+use shelf::{CheckRefusal, PutRefusal, Shelf, Size};
+use stamps::{CardNo, Stamp, TxNo, Value, VersionNo};
+
+// The versions of a card lie in the places that its drawer gives it; version 0 lies in none.
+#[derive(Drop)]
+pub struct PlacedShelf<D> {
+    drawers: D,
+}
+
+impl<D: Drawers> PlacedShelf<D> {
+    // Whether a shelf of this size fits into the memory.
+    pub fn check(memory: &D::Memory, size: Size) -> Result<(), CheckRefusal>
+        ensures { result ≡ (if D.fits memory.now size then Ok tt else Err NoFit) }
+    {
+        if D::fits(memory, size) {
+            Ok(())
+        } else {
+            Err(CheckRefusal::NoFit)
+        }
+    }
+
+    // A shelf with each card at version 0 alone and all places free; a shelf of no cards where this does not fit.
+    pub fn new(memory: D::Memory, size: Size) -> PlacedShelf<D>
+        ensures { D.meaning result.drawers ≡ D.made memory size }
+    {
+        let drawers = if D::fits(&memory, size) {
+            D::empty(memory, size)
+        } else {
+            D::none(memory)
+        };
+        PlacedShelf { drawers }
+    }
+
+    fn has(&self, card: CardNo) -> bool
+        ensures { result ≡ nat_lt card.0 (D.meaning self.now.drawers).cards }
+    {
+        card.0 < self.drawers.size().cards
+    }
+
+    // What is written of a version that the shelf has; none of version 0.
+    fn found(&self, card: CardNo, version: VersionNo) -> Option<Option<&Written>>
+        ensures { MatchOption result (version_at (D.meaning self.now.drawers) card.0 version.0 ≡ None) (λ o. MatchOption o (version_at (D.meaning self.now.drawers) card.0 version.0 ≡ Some first_version) (λ t. version_at (D.meaning self.now.drawers) card.0 version.0 ≡ Some (version_of (D.meaning self.now.drawers).width t.now))) }
+    {
+        if version > self.newest(card)? {
+            None
+        } else if version.0 == 0 {
+            Some(None)
+        } else {
+            Some(Some(self.drawers.written(card, version)))
+        }
+    }
+
+    // The stamp with these counts, if the shelf can keep it.
+    fn stamp_of(&self, counts: &[u32]) -> Option<Stamp>
+        ensures told { is_some result ≡ countable (D.meaning self.now.drawers).width counts.now }
+        ensures kept { IfSome result (λ x. cut (D.meaning self.now.drawers).width (entries x) ≡ counts_at counts.now) }
+    {
+        if counts.len() > self.width() as usize {
+            return None;
+        }
+        Stamp::from_counts(counts)
+    }
+}
+
+impl<D: Drawers> Shelf for PlacedShelf<D> {
+    ghost meaning = { λ s. D.meaning s.drawers };
+
+    ghost sound = { λ s. D.sound s.drawers };
+
+    fn cards(&self) -> u32 {
+        self.drawers.size().cards
+    }
+
+    fn width(&self) -> u32 {
+        self.drawers.size().width
+    }
+
+    fn versions(&self, card: CardNo) -> Option<u32> {
+        Some(self.newest(card)?.0 + 1)
+    }
+
+    fn newest(&self, card: CardNo) -> Option<VersionNo> {
+        self.has(card).then(|| self.drawers.newest(card))
+    }
+
+    fn shares(&self, one: CardNo, other: CardNo) -> Option<bool> {
+        (self.has(one) && self.has(other)).then(|| self.drawers.shares(one, other))
+    }
+
+    fn free(&self, card: CardNo) -> Option<u32> {
+        self.has(card).then(|| self.drawers.free(card))
+    }
+
+    fn value(&self, card: CardNo, version: VersionNo) -> Option<Value> {
+        let found = self.found(card, version)?;
+        Some(found.map_or(Value::BLANK, |written| written.value))
+    }
+
+    fn writer(&self, card: CardNo, version: VersionNo) -> Option<TxNo> {
+        let found = self.found(card, version)?;
+        Some(found.map_or(TxNo(0), |written| written.writer))
+    }
+
+    fn entry(&self, card: CardNo, version: VersionNo, of: CardNo) -> Option<u16> {
+        let found = self.found(card, version)?;
+        Some(match found {
+            Some(written) if of.0 < self.width() => written.stamp.entry(of),
+            _ => 0,
+        })
+    }
+
+    fn stamp(&self, card: CardNo, version: VersionNo) -> Option<Stamp> {
+        let found = self.found(card, version)?;
+        Some(found.map_or_else(Stamp::zero, |written| written.stamp.cut_at(self.width())))
+    }
+
+    fn put(
+        &mut self,
+        card: CardNo,
+        value: Value,
+        writer: TxNo,
+        counts: &[u32],
+    ) -> Result<(), PutRefusal> {
+        let free = self.free(card).ok_or(PutRefusal::NoCard)?;
+        let stamp = self.stamp_of(counts).ok_or(PutRefusal::BadStamp)?;
+        if free == 0 {
+            return Err(PutRefusal::NoPlace);
+        }
+        let written = Written {
+            value,
+            writer,
+            stamp,
+        };
+        self.drawers.add(card, written);
+        Ok(())
+    }
+}

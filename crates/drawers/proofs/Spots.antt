@@ -1,12 +1,11 @@
 -- What lies at a place, and what a write leaves. Assumes nothing.
-use Rattle.std.proofs.Common.{◌≡◌, ℕ, zero, suc, ◌<◌, ◌≤◌, ◌≢◌, List, [], ◌∷◌, map, set, get_or, vec_items, vec_len, sym, refl, ap, ◌∙◌, arith}
+use Rattle.std.proofs.Common.{◌≡◌, ℕ, zero, suc, ◌<◌, ◌≢◌, List, [], ◌∷◌, map, set, get_or, vec_items, vec_len, sym, refl, ap, ◌∙◌, arith}
 use Rattle.std.proofs.lemmas.List.{get_or-map, map-set, get_or-set_same, get_or-set_other, length-map}
 use Rattle.std.proofs.lemmas.Bool.Decides.{nat_tests}
-use Rattle.stamps.specs.declared.stamp.Stamp.{Stamp}
 use Rattle.drawers.specs.declared.places.Places.{Places}
 use Rattle.drawers.specs.declared.places.Written.{Written}
 use Rattle.drawers.specs.Places.{version_in, version_of, Wrote}
-use Rattle.shelf.specs.Meaning.{Version, first_version}
+use Rattle.shelf.specs.Meaning.{first_version}
 use Rattle.shelf.specs.Sound.{Narrow}
 
 -- what was read at a place

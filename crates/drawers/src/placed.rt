@@ -31,7 +31,7 @@ impl<D: Drawers> PlacedShelf<D> {
 
     // A shelf with each card at version 0 alone and all places free; a shelf of no cards where this does not fit.
     pub fn new(memory: D::Memory, size: Size) -> PlacedShelf<D>
-        ensures { D.meaning result.drawers ≡ D.made memory size }
+        ensures { ⟦<PlacedShelf<D> as Shelf>⟧.meaning result ≡ D.made memory size }
     {
         let drawers = if D::fits(&memory, size) {
             D::empty(memory, size)

@@ -1,5 +1,5 @@
 -- What a pool of places answers, keeps, and becomes when a version is added. Assumes nothing.
-use Rattle.std.specs.Prelude.{◌≡◌, ℕ, zero, suc, pred, ◌-◌, ◌<◌, ◌≤◌, Bool, true, false, cond, ◌&&◌, ◌≢◌, List, [], ◌∷◌, ◌++◌, length, Some, ◌==◌, nat_lt, refl}
+use Rattle.std.specs.Prelude.{◌≡◌, ℕ, zero, suc, pred, ◌-◌, ◌<◌, ◌≤◌, Bool, true, false, cond, ◌&&◌, ◌≢◌, [], ◌∷◌, ◌++◌, length, Some, ◌==◌, nat_lt, refl}
 use Rattle.std.proofs.Common.{sym, ap, subst, ◌∙◌, ⊎_elim, arith}
 use Rattle.std.proofs.Math.Path.{fun_ext}
 use Rattle.std.specs.List.{slice_get, AllByRecursion}
@@ -10,18 +10,10 @@ use Rattle.std.proofs.lemmas.Bool.Decides.{nat_tests}
 use Rattle.shelf.specs.Meaning.{Version, first_version}
 use Rattle.shelf.specs.Sound.{Narrow, Sound}
 use Rattle.shelf.specs.Putting.{added}
+use Rattle.shelf.proofs.Lines.{nth_more, nth_last}
 use Rattle.pools.specs.Chains.{gathered, tally}
 use Rattle.drawers.specs.Fresh.{no_cards, fresh, all_one}
 use Rattle.pools.specs.Pools.{pool_line, pool_of}
-
-pub nth_more : (xs ys : List Version) (k : ℕ) (x : Version) → slice_get xs k ≡ Some x → slice_get (xs ++ ys) k ≡ Some x
-nth_more [] ys k x e = let z : ◌≡◌ {A = ℕ} 0 1 = cc in absurd (omega arith)
-nth_more (y ∷ xs) ys zero x e = e
-nth_more (y ∷ xs) ys (suc k) x e = nth_more xs ys k x e
-
-pub nth_last : (xs : List Version) (y : Version) → slice_get (xs ++ y ∷ []) (length xs) ≡ Some y
-nth_last [] y = refl
-nth_last (x ∷ xs) y = nth_last xs y
 
 module _ (owner : ℕ → ℕ) (at : ℕ → Version) (c : ℕ) where
   pub length_gathered : (n : ℕ) → length (gathered owner at c n) ≡ tally owner c n

@@ -2,7 +2,7 @@
 --     row_meaning s           what a shelf over the drawers s means
 --     row_fits mem size       a row shelf of this size fits into the memory
 --     row_made mem size       what is made of it: the fresh row if it fits, else the shelf of no cards
-use Rattle.std.specs.Prelude.{ℕ, ◌*◌, Bool, ◌&&◌, vec_items, vec_len, nat_le, slice_index}
+use Rattle.std.specs.Prelude.{◌*◌, Bool, ◌&&◌, vec_items, vec_len, nat_le, slice_index}
 use Rattle.rows.specs.declared.row.RowMemory.{RowMemory}
 use Rattle.rows.specs.declared.row.RowDrawers.{RowDrawers}
 use Rattle.shelf.specs.Meaning.{Meaning}

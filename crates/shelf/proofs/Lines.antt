@@ -17,12 +17,12 @@ narrow_nth w [] k v all e = let z : ◌≡◌ {A = ℕ} 0 1 = cc in absurd (omeg
 narrow_nth w (x ∷ l) zero v all e = let same : x ≡ v = cc in subst (Narrow w) same all.0
 narrow_nth w (x ∷ l) (suc k) v all e = narrow_nth w l k v all.1 e
 
-nth_more : (xs ys : List Version) (k : ℕ) (x : Version) → slice_get xs k ≡ Some x → slice_get (xs ++ ys) k ≡ Some x
+pub nth_more : (xs ys : List Version) (k : ℕ) (x : Version) → slice_get xs k ≡ Some x → slice_get (xs ++ ys) k ≡ Some x
 nth_more [] ys k x e = let z : ◌≡◌ {A = ℕ} 0 1 = cc in absurd (omega arith)
 nth_more (y ∷ xs) ys zero x e = e
 nth_more (y ∷ xs) ys (suc k) x e = nth_more xs ys k x e
 
-nth_last : (xs : List Version) (y : Version) → slice_get (xs ++ y ∷ []) (length xs) ≡ Some y
+pub nth_last : (xs : List Version) (y : Version) → slice_get (xs ++ y ∷ []) (length xs) ≡ Some y
 nth_last [] y = refl
 nth_last (x ∷ xs) y = nth_last xs y
 

@@ -1,28 +1,27 @@
 // One table of steps over every make of shelf.
-use crate::{PoolMemory, PoolShelf, PutRefusal, RowMemory, RowShelf, Shelf, Size, SplitShelf};
+use crate::{Drawers, PlacedShelf, PoolShelf, PutRefusal, RowShelf, Shelf, Size, SplitShelf};
 use stamps::{CardNo, TxNo, Value, VersionNo};
 use std::alloc::{AllocError, Global};
 use std::process::Abort;
 use std::test::Fail;
 
-fn row(heap: Global) -> Result<RowShelf, AllocError> {
+// A row or a pool of two cards, with three counts to a stamp.
+fn made<D: Drawers>(heap: Global, places: u32) -> Result<PlacedShelf<D>, AllocError> {
     let size = Size {
         cards: 2,
         width: 3,
-        places: 2,
+        places,
     };
-    let memory = RowMemory::reserve(heap, size.cards, size.places)?;
-    Ok(RowShelf::new(memory, size))
+    let memory = D::reserve(heap, size.cards, size.places)?;
+    Ok(PlacedShelf::new(memory, size))
+}
+
+fn row(heap: Global) -> Result<RowShelf, AllocError> {
+    made(heap, 2)
 }
 
 fn pool(heap: Global) -> Result<PoolShelf, AllocError> {
-    let size = Size {
-        cards: 2,
-        width: 3,
-        places: 3,
-    };
-    let memory = PoolMemory::reserve(heap, size.cards, size.places)?;
-    Ok(PoolShelf::new(memory, size))
+    made(heap, 3)
 }
 
 // Puts the steps of the table, and asks for each version that was put.

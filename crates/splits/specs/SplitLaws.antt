@@ -6,6 +6,7 @@ use Rattle.std.specs.List.{slice_get, AllByRecursion}
 use Rattle.std.specs.Option.{option_map}
 use Rattle.std.proofs.ByRecursion.{All-map, All-weaker}
 use Rattle.std.proofs.lemmas.List.{length-map}
+use Rattle.std.proofs.lemmas.Option.{slice_get-map}
 use Rattle.std.proofs.lemmas.Bool.{false≢true}
 use Rattle.std.proofs.lemmas.Bool.Decides.{nat_tests}
 use Rattle.stamps.specs.declared.numbers.CardNo.{CardNo}
@@ -14,7 +15,7 @@ use Rattle.splits.specs.declared.split.Side.TheVariants.{Left, Right}
 use Rattle.shelf.specs.Meaning.{Version, Meaning, first_version}
 use Rattle.shelf.specs.Sound.{Narrow, Sound}
 use Rattle.splits.specs.Split.{Parts, parts, same_side, side_of, located, narrowed, join}
-use Rattle.splits.specs.Splits.{Found, here, nowhere, find, shown, width_of, nth_map}
+use Rattle.splits.specs.Splits.{Found, here, nowhere, find, shown, width_of}
 
 -- the first version and every narrow one after the cut
 first_narrowed : (w : ℕ) → narrowed w first_version ≡ first_version
@@ -84,7 +85,7 @@ module _ (p : Parts) (laws : (s : Side) → Sound (p s)) where
   module _ (c : ℕ) where
     first_at : (o : Option (Side × CardNo)) → Found p c o → c < shown p → slice_get (line_at o) 0 ≡ Some first_version
     first_at _ (here s d at) h =
-        nth_map (narrowed (width_of p)) ((p s).line d.0) 0
+        slice_get-map (narrowed (width_of p)) ((p s).line d.0) 0
         ∙ ap (option_map (narrowed (width_of p))) ((laws s).first d.0 at.listed)
         ∙ ap Some (first_narrowed (width_of p))
     first_at _ (nowhere past) h = absurd (omega arith)

@@ -1,10 +1,11 @@
 -- Where a split keeps a card, and what it answers from there. Assumes nothing.
-use Rattle.std.specs.Prelude.{◌≡◌, ℕ, zero, suc, pred, ◌+◌, ◌-◌, ◌<◌, ◌≤◌, min, false, cond, ◌&&◌, List, [], ◌∷◌, map, length, Some, None, Option, nat_lt}
+use Rattle.std.specs.Prelude.{◌≡◌, ℕ, pred, ◌+◌, ◌-◌, ◌<◌, ◌≤◌, min, false, cond, ◌&&◌, [], map, length, Some, None, Option, nat_lt}
 use Rattle.std.proofs.Math.Path.{refl, sym, ap}
 use Rattle.std.proofs.Common.{subst, ◌∙◌, ⊎_elim, arith}
 use Rattle.std.specs.List.{slice_get}
 use Rattle.std.specs.Option.{option_map}
 use Rattle.std.proofs.lemmas.List.{length-map}
+use Rattle.std.proofs.lemmas.Option.{slice_get-map}
 use Rattle.std.proofs.lemmas.Bool.{cases_lt, cond-true, cond-false, lt-ltb, le-ltb, and_left, and_right}
 use Rattle.stamps.specs.declared.numbers.CardNo.{CardNo}
 use Rattle.splits.specs.declared.split.Side.{Side}
@@ -58,11 +59,6 @@ on p c s d is = go (side_of p c) (find p c) is
         let both : ◌≡◌ {A = Side × CardNo} (t, e) (s, d) = cc in
         subst (λ (q : Side × CardNo). On p c q.0 q.1.0) both at
     go _ (nowhere past) same = let z : ◌≡◌ {A = ℕ} 0 1 = cc in absurd (omega arith)
-
-pub nth_map : {X Y : Type 0} (f : X → Y) (xs : List X) (k : ℕ) → slice_get (map f xs) k ≡ option_map f (slice_get xs k)
-nth_map f [] k = refl
-nth_map f (x ∷ xs) zero = refl
-nth_map f (x ∷ xs) (suc k) = nth_map f xs k
 
 module _ (p : Parts) (c : ℕ) where
   pub versions_split : versions_of (join p) c ≡ located (side_of p c) None (λ s d. versions_of (p s) d)
@@ -128,7 +124,7 @@ module _ (p : Parts) (c : ℕ) where
       go : (o : Option (Side × CardNo)) →
           option_map f (slice_get (located o [] (λ s d. map (narrowed (width_of p)) ((p s).line d))) k) ≡ located o None (λ s d. option_map f' (version_at (p s) d k))
       go None = refl
-      go (Some (s, d)) = ap (option_map f) (nth_map (narrowed (width_of p)) ((p s).line d.0) k) ∙ through (slice_get ((p s).line d.0) k)
+      go (Some (s, d)) = ap (option_map f) (slice_get-map (narrowed (width_of p)) ((p s).line d.0) k) ∙ through (slice_get ((p s).line d.0) k)
 
   -- a question that changes what the side's version answers by h
   pub asked_by : {A B : Type 0} (k : ℕ) (f : Version → B) (f' : Version → A) (h : A → B) → ((v : Version) → f (narrowed (width_of p) v) ≡ h (f' v))

@@ -26,6 +26,8 @@ impl<L: Shelf, R: Shelf> SplitShelf<L, R> {
     }
 }
 
+// Each question is asked of the side that keeps the card. The sides have two types, so a function that asks either would take a
+// closure for each, and name the question twice as two arms do.
 impl<L: Shelf, R: Shelf> Shelf for SplitShelf<L, R> {
     ghost meaning = { λ s. join (parts (L.Shelf.meaning s.left) (R.Shelf.meaning s.right)) };
 
@@ -34,11 +36,13 @@ impl<L: Shelf, R: Shelf> Shelf for SplitShelf<L, R> {
         let r = R.Shelf.meaning s.right in
         split_sound (parts l r) (both_sound l r (L.Shelf.sound s.left) (R.Shelf.sound s.right)) };
 
+    #[tactic(auto, unfolding(crate::specs::Split::join))]
     fn cards(&self) -> u32 {
         (self.left.cards() + self.right.cards()).min(MOST_CARDS)
     }
 
     // The smaller width of the two.
+    #[tactic(auto, unfolding(crate::specs::Split::join))]
     fn width(&self) -> u32 {
         self.left.width().min(self.right.width())
     }

@@ -2,7 +2,7 @@ use Rattle.std.proofs.Common.{◌≡◌, suc, ◌+◌, ◌<◌, true, length, se
 use Rattle.pools.specs.declared.chain.Chain.{Chain}
 use Rattle.pools.specs.declared.chain.Link.{Link}
 use Rattle.pools.specs.Chains.{Leads, owner, tally, newest_known}
-use Rattle.pools.specs.Links.{all_known, all_newest, chain_new}
+use Rattle.pools.specs.Links.{all_known, all_newest}
 use Rattle.pools.specs.PoolFacts.{newest_there, number_small, link_read, pool_with}
 use Rattle.pools.proofs.pool.PoolDrawer.append.Goals as goal
 

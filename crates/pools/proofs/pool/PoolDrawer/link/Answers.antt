@@ -1,6 +1,6 @@
 use Rattle.std.proofs.Common.{◌≤◌, ltb, vec_items, sym, subst, arith}
 use Rattle.std.proofs.lemmas.Bool.{cond_both, ltb-false}
-use Rattle.pools.specs.Chains.{Led, Leads}
+use Rattle.pools.specs.Chains.{Led}
 use Rattle.pools.specs.declared.chain.Link.{Link}
 use Rattle.pools.specs.PoolFacts.{back, newest_there, link_read}
 use Rattle.pools.proofs.pool.PoolDrawer.link.Goals as goal

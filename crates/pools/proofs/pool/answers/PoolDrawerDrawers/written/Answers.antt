@@ -1,4 +1,4 @@
-use Rattle.std.proofs.Common.{◌≡◌, Some, ap, ◌∙◌, subst, sym, arith}
+use Rattle.std.proofs.Common.{◌≡◌, Some, subst, arith}
 use Rattle.shelf.specs.Meaning.{version_at}
 use Rattle.drawers.specs.Places.{version_of}
 use Rattle.pools.specs.PoolMeaning.{pool_meaning}

@@ -1,4 +1,4 @@
-use Rattle.std.proofs.Common.{sym, ◌∙◌, arith}
+use Rattle.std.proofs.Common.{sym, ◌∙◌}
 use Rattle.rows.specs.RowMeaning.{row_meaning}
 use Rattle.rows.specs.RowFacts.{row_newest, used_read}
 use Rattle.rows.proofs.row.answers.RowDrawersDrawers.newest.Goals as goal

@@ -47,8 +47,7 @@ module _ (bs : List ℕ) (i n : ℕ) (cs : Counts) (lt : i < n) where
   pub stops : (f : JudgeFault) (old all : List ℕ) → judged_at (placed_at i (decoded (part bs i))) ≡ Err f → old ++ text_from bs i (n - i) cs ≡ all → old ++ refused_line f ≡ all
   stops f old all e h = ap (λ (x : List ℕ). old ++ x) (sym (by_fault _ f cs (text_from bs (suc i) (n - suc i)) e)) ∙ ap (λ (x : List ℕ). old ++ x) (sym one_more) ∙ h
 
--- what was read is record i of the file: the reader has the file's bytes, and its place is i
-pub read_there : (bs : List ℕ) (i : ℕ) (bytes : List ℕ) (place : ℕ) (p : List ℕ) (r s : Result Line JudgeFault) → bytes ≡ bs → place ≡ i → p ≡ part bytes place
-    → r ≡ judged_at (placed_at i (decoded p)) → r ≡ s → judged_at (placed_at i (decoded (part bs i))) ≡ s
-read_there bs i bytes place p r s eb ei ep er es =
-    ap (λ (x : List ℕ). judged_at (placed_at i (decoded x))) (sym (ep ∙ (λ z. part (eb z) (ei z)))) ∙ sym er ∙ es
+-- what was read is record i of the file
+pub read_there : (bs : List ℕ) (i place : ℕ) (p : List ℕ) (r s : Result Line JudgeFault) → place ≡ i → p ≡ part bs i
+    → r ≡ judged_at (placed_at place (decoded p)) → r ≡ s → judged_at (placed_at i (decoded (part bs i))) ≡ s
+read_there bs i place p r s ei ep er es = (λ z. judged_at (placed_at (sym ei z) (decoded (sym ep z)))) ∙ sym er ∙ es

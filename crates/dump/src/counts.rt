@@ -54,10 +54,12 @@ impl fmt::Display for Counts {
 
     fn fmt<W: fmt::Write>(&self, f: &mut fmt::Formatter<W>) -> fmt::Result {
         let total = self.total();
-        let reads = self.reads;
-        let writs = self.writs;
-        let dones = self.dones;
-        let gones = self.gones;
+        let Counts {
+            reads,
+            writs,
+            dones,
+            gones,
+        } = *self;
         write!(
             f,
             "{total} records: {reads} READ, {writs} WRIT, {dones} DONE, {gones} GONE"

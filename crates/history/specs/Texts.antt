@@ -1,6 +1,6 @@
 -- What a program prints of a fault, and of a verdict as a line. Assumes nothing.
---     refused f                   what a program prints of a fault: its number and record place
---     refused_text r              as REFUSED 23 AT 5
+--     refused f                   a fault, as a program prints it
+--     refused_text r              its number and record place, as REFUSED 23 AT 5
 --     with_newline xs             a printed line
 --     verdict_line v, refused_line f      the lines of a verdict and of a refusal
 use Rattle.std.specs.Prelude.{ℕ, List, [], ◌∷◌, ◌++◌, codes, decimal}
@@ -11,10 +11,10 @@ use Rattle.verdicts.specs.Texts.{verdict_text}
 use Rattle.history.specs.declared.refused.Refused.{Refused}
 
 abbrev pub refused : JudgeFault → Refused
-refused f = record { number = judge_number f; place = judge_place f }
+refused f = record { fault = f }
 
 abbrev pub refused_text : Refused → List ℕ
-refused_text r = codes "REFUSED " ++ (decimal r.number ++ (codes " AT " ++ decimal r.place))
+refused_text r = codes "REFUSED " ++ (decimal (judge_number r.fault) ++ (codes " AT " ++ decimal (judge_place r.fault)))
 
 abbrev pub with_newline : List ℕ → List ℕ
 with_newline xs = xs ++ 10 ∷ []

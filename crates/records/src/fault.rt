@@ -35,7 +35,7 @@ impl RecordFault {
 }
 
 // A record's fault and the record's place in its file, counted from 0.
-#[derive(Clone, Copy, PartialEq, Debug)]
+#[derive(Clone, Copy, PartialEq, Eq, Debug)]
 pub struct PlacedFault {
     pub fault: RecordFault,
     pub place: usize,

@@ -5,7 +5,7 @@ use super::whole::LARGEST_FILE;
 use records::{PlacedFault, RECORD_SIZE};
 
 // Why a file is not judged: what is wrong first, and at which record, counted from 0.
-#[derive(Clone, Copy, PartialEq, Debug)]
+#[derive(Clone, Copy, PartialEq, Eq, Debug)]
 pub enum JudgeFault {
     // More bytes than the largest file has.
     TooLong,
@@ -20,7 +20,7 @@ pub enum JudgeFault {
 }
 
 impl JudgeFault {
-    // The number of the refusal.
+    // The number of the refusal: a record's fault has its own, and the others carry places, so each is named.
     pub fn number(self) -> u32
         ensures { result ≡ judge_number self }
     {

@@ -1,11 +1,12 @@
-use Rattle.std.proofs.Common.{◌≡◌, ℕ, ◌+◌, ◌<◌, true, false, ◌++◌, is_ok, OnOk, Ok, Err, Result, string_bytes, sym, ap, ◌∙◌, arith}
+use Rattle.std.proofs.Common.{◌≡◌, ℕ, ◌+◌, ◌-◌, true, false, List, ◌∷◌, [], ◌++◌, length, is_ok, OnOk, Ok, Err, Result, string_bytes, sym, ap, ◌∙◌, subst, inl, arith, length-append}
 use Rattle.std.proofs.lemmas.Result.{err_from_is_err_and}
-use Rattle.records.specs.Format.{decoded, placed_at}
-use Rattle.records.specs.Parts.{records_in, part}
+use Rattle.records.specs.Parts.{records_in}
+use Rattle.records.proofs.Parts.{numbers_fit, numbered_next, numbered_all}
 use Rattle.records.specs.Words.{line_text}
-use Rattle.dump.specs.Dump.{total}
+use Rattle.rules.specs.Rules.{counted}
+use Rattle.rules.proofs.Accepted.{size_known}
+use Rattle.dump.specs.Dump.{total, text_from, text_of_size, dump_text}
 use Rattle.history.specs.Texts.{with_newline}
-use Rattle.dump.specs.Ends.{judged_at}
 use Rattle.dump.proofs.Onward.{total_more, onward, stops, read_there}
 use Rattle.dump.proofs.text.write_lines.Goals as goal
 
@@ -14,29 +15,65 @@ known_when_ok : {A B D E P : Type 0} (r : Result A D) (s : Result B E) (x : B) �
 known_when_ok (Ok y) s x p e w = p
 known_when_ok (Err f) s x p e w = let t : true ≡ false = ap is_ok (sym w) ∙ e in let z : ◌≡◌ {A = ℕ} 0 1 = cc in absurd (omega arith)
 
+pub loop-place-init : goal.loop-place-init
+loop-place-init c =
+    let bs = c.args.file.now in
+    let n = c.in_ok-whole_records.field-0 in
+    let size : counted bs ≡ Ok n = sym c.whole_records.ensures ∙ c.in_ok-whole_records.was in
+    let (many, few) = size_known bs n size in
+    let all : records_in bs - 0 ≡ n = omega arith in
+    let text : text_from bs 0 (records_in bs - 0) c.none-counts.result ≡ dump_text bs =
+    (λ z. text_from bs 0 (all z) (c.none-counts.ensures z)) ∙ sym (ap (text_of_size bs) size) in
+    let fit = numbers_fit bs c.new.result c.new.ensures.bytes c.new.ensures.place c.into_iter-place-iterator.result c.enumerate-place-items.result c.into_iter-place-iterator.ensures.into_iter_gives
+    c.enumerate-place-items.ensures.source c.enumerate-place-items.ensures.count few in
+    ((tt, tt, inl fit), tt, ap total c.none-counts.ensures, few, ap (λ (xs : List ℕ). string_bytes c.args.text.now ++ xs) text)
+
+pub add-requires : goal.add-requires
+add-requires c =
+    let bs = c.args.file.now in
+    let (within, at, is) = numbered_next bs c.new.result c.new.ensures.bytes c.new.ensures.place c.into_iter-place-iterator.result c.enumerate-place-items.result c.into_iter-place-iterator.ensures.into_iter_gives
+    c.enumerate-place-items.ensures.source c.enumerate-place-items.ensures.count c.loop-place.yielded c.loop-place.place-iterator c.loop-place.yielded_by c.next.result c.next.new.self
+    (c.in-Some.place, c.in-Some.part) c.in-Some.is c.next.ensures.steps in
+    omega (arith, c.loop-place.invariant.2, c.loop-place.invariant.3)
+
 pub returns-in_err-line : goal.returns-in_err-line
 returns-in_err-line c =
     let bs = c.args.file.now in
-    let i = c.loop-part.place in
+    let i = length c.loop-place.yielded in
     let f = c.in_err-line.field-0.0 in
-    let handed = c.in-Some.ensures.steps.cases in
-    let within : i < records_in bs = omega (arith, ap records_in c.loop-part.invariant.0) in
-    let e : judged_at (placed_at i (decoded (part bs i))) ≡ Err f =
-    read_there bs i c.loop-part.reader.bytes.now c.loop-part.reader.place c.in-Some.part.now c.line_at.result (Err f) c.loop-part.invariant.0 c.loop-part.invariant.1 handed.is c.line_at.ensures c.in_err-line.was in
-    let done = stops bs i (records_in bs) c.loop-part.counts within f (string_bytes c.loop-part.text) _ e c.loop-part.invariant.5 in
+    let (within, at, is) = numbered_next bs c.new.result c.new.ensures.bytes c.new.ensures.place c.into_iter-place-iterator.result c.enumerate-place-items.result c.into_iter-place-iterator.ensures.into_iter_gives
+    c.enumerate-place-items.ensures.source c.enumerate-place-items.ensures.count c.loop-place.yielded c.loop-place.place-iterator c.loop-place.yielded_by c.next.result c.next.new.self
+    (c.in-Some.place, c.in-Some.part) c.in-Some.is c.next.ensures.steps in
+    let read = read_there bs i c.in-Some.place c.in-Some.part.now c.line_at.result (Err f) at is c.line_at.ensures c.in_err-line.was in
+    let done = stops bs i (records_in bs) c.loop-place.counts within f (string_bytes c.loop-place.text) _ read c.loop-place.invariant.4 in
     let p = err_from_is_err_and c.from_residual-in_err-line.result c.from_residual-in_err-line.ensures.1 in
     rw (p.1, p.2) done
 
-pub loop-part-preserved : goal.loop-part-preserved
-loop-part-preserved c =
+pub loop-place-preserved : goal.loop-place-preserved
+loop-place-preserved c =
     let bs = c.args.file.now in
-    let i = c.loop-part.place in
+    let i = length c.loop-place.yielded in
     let l = c.in_ok-line.line in
-    let handed = c.in-Some.ensures.steps.cases in
-    let within : i < records_in bs = omega (arith, ap records_in c.loop-part.invariant.0) in
-    let e : judged_at (placed_at i (decoded (part bs i))) ≡ Ok l =
-    read_there bs i c.loop-part.reader.bytes.now c.loop-part.reader.place c.in-Some.part.now c.line_at.result (Ok l) c.loop-part.invariant.0 c.loop-part.invariant.1 handed.is c.line_at.ensures c.in_ok-line.was in
-    let w : string_bytes c.writeln.new.self ≡ string_bytes c.loop-part.text ++ with_newline (line_text l) = known_when_ok c.writeln.result c.map_err.result c.in_ok-map_err.field-0 c.writeln.ensures.bytes c.map_err.ensures.variant c.in_ok-map_err.was in
-    let more = onward bs i (records_in bs) c.loop-part.counts within l c.add.new.self (string_bytes c.loop-part.text) (string_bytes c.writeln.new.self) _ e c.add.ensures w c.loop-part.invariant.5 in
-    let count : total c.add.new.self ≡ i + 1 = ap total c.add.ensures ∙ total_more c.loop-part.counts l.kind ∙ ap (λ (n : ℕ). n + 1) c.loop-part.invariant.2 in
-    (c.in-Some.ensures.steps.same ∙ c.loop-part.invariant.0, omega arith, count, omega arith, c.loop-part.invariant.4, more)
+    let (within, at, is) = numbered_next bs c.new.result c.new.ensures.bytes c.new.ensures.place c.into_iter-place-iterator.result c.enumerate-place-items.result c.into_iter-place-iterator.ensures.into_iter_gives
+    c.enumerate-place-items.ensures.source c.enumerate-place-items.ensures.count c.loop-place.yielded c.loop-place.place-iterator c.loop-place.yielded_by c.next.result c.next.new.self
+    (c.in-Some.place, c.in-Some.part) c.in-Some.is c.next.ensures.steps in
+    let read = read_there bs i c.in-Some.place c.in-Some.part.now c.line_at.result (Ok l) at is c.line_at.ensures c.in_ok-line.was in
+    let w : string_bytes c.writeln.new.self ≡ string_bytes c.loop-place.text ++ with_newline (line_text l) = known_when_ok c.writeln.result c.map_err.result c.in_ok-map_err.field-0 c.writeln.ensures.bytes c.map_err.ensures.variant c.in_ok-map_err.was in
+    let more = onward bs i (records_in bs) c.loop-place.counts within l c.add.new.self (string_bytes c.loop-place.text) (string_bytes c.writeln.new.self) _ read c.add.ensures w c.loop-place.invariant.4 in
+    let count : total c.add.new.self ≡ i + 1 = ap total c.add.ensures ∙ total_more c.loop-place.counts l.kind ∙ ap (λ (n : ℕ). n + 1) c.loop-place.invariant.2 in
+    let longer : i + 1 ≡ length (c.loop-place.yielded ++ (c.in-Some.place, c.in-Some.part) ∷ []) = sym (length-append c.loop-place.yielded ((c.in-Some.place, c.in-Some.part) ∷ [])) in (
+      c.in-Some.ensures.goes.keeps,
+      tt,
+      count ∙ longer,
+      c.loop-place.invariant.3,
+      subst (λ k. string_bytes c.writeln.new.self ++ text_from bs k (records_in bs - k) c.add.new.self ≡ string_bytes c.args.text.now ++ dump_text bs) longer more,
+    )
+
+pub returns : goal.returns
+returns c =
+    let bs = c.args.file.now in
+    let all = numbered_all bs c.new.result c.new.ensures.bytes c.new.ensures.place c.into_iter-place-iterator.result c.enumerate-place-items.result c.into_iter-place-iterator.ensures.into_iter_gives
+    c.enumerate-place-items.ensures.source c.enumerate-place-items.ensures.count c.loop-place.yielded c.loop-place.place-iterator c.loop-place.yielded_by c.next.result c.next.new.self
+    c.in-None.is c.next.ensures.steps in
+    let none : records_in bs - length c.loop-place.yielded ≡ 0 = omega arith in
+    ap (λ m. string_bytes c.loop-place.text ++ text_from bs (length c.loop-place.yielded) m c.loop-place.counts) (sym none) ∙ c.loop-place.invariant.4

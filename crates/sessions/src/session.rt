@@ -1,6 +1,6 @@
 // The books of a session and the slips in hand: each command is answered by one call, or by what is asked of the shelf.
-ghost use Rattle.std.specs.Prelude.{◌≡◌, List, [], IfOk, vec_len};
-ghost use Rattle.books.specs.States.{new_state};
+ghost use Rattle.std.specs.Prelude.{◌≡◌, List, [], IfOk};
+ghost use Rattle.books.specs.States.{sizes_of, new_state};
 ghost use Rattle.catalogue.specs.Kept.{kept};
 ghost use Rattle.sessions.specs.Exactly.{Replied};
 ghost use Rattle.sessions.specs.declared.command.Command.TheVariants as commands;
@@ -23,7 +23,7 @@ pub(crate) struct Session {
 impl Session {
     // Books that are not set up yet, and no slip in hand.
     pub(crate) fn new(heap: Global, memory: BooksMemory) -> Session
-        ensures books { kept result.catalogue ≡ new_state (record { places = vec_len memory.places; reads = vec_len memory.reads; drafts = vec_len memory.drafts; lines = vec_len memory.lines }) }
+        ensures books { kept result.catalogue ≡ new_state (sizes_of memory) }
         ensures slips { result.slips.items ≡ [] }
     {
         Session {

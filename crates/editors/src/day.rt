@@ -4,7 +4,7 @@ ghost use Rattle.std.specs.Prelude.{◌≤◌, length, IfOk};
 use crate::parse::{BooksSize, Instruction, parse};
 use crate::show::show;
 use catalogue::BooksMemory;
-use sessions::{Answer, Command, history_file, run};
+use sessions::{Answer, Command, FileFault, history_file, run};
 use shelves::Shelf;
 use std::alloc::{AllocError, Global};
 use std::{fs, io};
@@ -94,10 +94,14 @@ fn file_of(line: &str) -> Option<&str> {
 // Writes the journal as a history file.
 fn save(rt: &HostRuntime, file: &str, answer: &Answer) -> io::Result<()> {
     if let Answer::Journal(lines) = answer {
-        if let Some(bytes) = history_file(rt.alloc(), lines)? {
-            if fs::write(rt, file, &bytes).is_ok() {
-                return println!(rt; "ok");
+        match history_file(rt.alloc(), lines) {
+            Ok(bytes) => {
+                if fs::write(rt, file, &bytes).is_ok() {
+                    return println!(rt; "ok");
+                }
             }
+            Err(FileFault::Memory(fault)) => return Err(fault.into()),
+            Err(FileFault::Line(_)) => {}
         }
     }
     println!(rt; "not saved")

@@ -51,8 +51,9 @@ impl Books {
         ensures answer { result ≡ read_first (S.meaning shelf.now) (at (state_of self.old).places place) card.0 }
         ensures books { state_of self.new ≡ read_place (state_of self.old) place card.0 (read_first (S.meaning shelf.now) (at (state_of self.old).places place) card.0) }
     {
-        let version = newest_that_fits(shelf, self.table.reads_at(place), card)
-            .ok_or(Refusal::OtherShelf)?;
+        let version = newest_that_fits(shelf, self.table.reads_at(place), card).ok_or(
+            Refusal::OtherShelf,
+        )?;
         let reading = seen(shelf, &self.table, place, card, version);
         self.table.enter_read(place, ReadEntry { card, version });
         Ok(reading)

@@ -37,8 +37,10 @@ fn drafts_in_drawer<S: Shelf>(shelf: &S, card: CardNo, drafts: &[DraftEntry]) ->
 pub fn is_crowded<S: Shelf>(shelf: &S, drafts: &[DraftEntry]) -> bool
     ensures { result ≡ crowded (S.meaning shelf.now) (map drafting drafts.now) }
 {
-    drafts.iter().any(|draft| (free_of(shelf, draft.card) as usize)
-        < drafts_in_drawer(shelf, draft.card, drafts))
+    drafts.iter().any(|draft| {
+        let free = free_of(shelf, draft.card) as usize;
+        free < drafts_in_drawer(shelf, draft.card, drafts)
+    })
 }
 
 // Puts the drafts of a transaction, in rising card order.

@@ -1,5 +1,5 @@
 -- What the calls answer, case by case. Assumes nothing.
-use Rattle.std.proofs.Common.{◌≡◌, ℕ, zero, suc, ◌<◌, ◌≤◌, Bool, true, false, cond, ◌||◌, ltb, List, [], ◌∷◌, length, Some, None, Ok, Err, Option, Result, refl, arith}
+use Rattle.std.proofs.Common.{◌≡◌, ℕ, zero, suc, ◌<◌, ◌≤◌, Bool, true, false, cond, ◌||◌, ltb, List, [], ◌∷◌, length, Some, None, Ok, Err, Option, MatchOption, Result, refl, subst, arith}
 use Rattle.std.specs.List.{slice_get}
 use Rattle.std.specs.Option.{ok_or}
 use Rattle.std.proofs.lemmas.Bool.{lt-ltb, le-ltb, eq-eqb, ne_eqb, ltb-true}
@@ -53,3 +53,8 @@ module _ (b : State) (x : ℕ) (o : Open) where
 pub found_there : (o : Option ℕ) (i : ℕ) → ok_or {E = Refusal} o refusals.NotOpen ≡ Ok i → o ≡ Some i
 found_there None i e = let z : ◌≡◌ {A = ℕ} 0 1 = cc in absurd (omega arith)
 found_there (Some j) i e = cc
+
+-- the free place that was found
+pub free_there : (ps : List (Option Open)) (o : Option ℕ) (i : ℕ) → MatchOption o (all_taken ps ≡ true) (λ j. slice_get ps j ≡ Some None) → o ≡ Some i →
+    slice_get ps i ≡ Some None
+free_there ps o i told e = subst (λ x. MatchOption x (all_taken ps ≡ true) (λ j. slice_get ps j ≡ Some None)) e told

@@ -1,9 +1,10 @@
 -- What books mean. Which entries are used, and what the others hold, is no part of this. Assumes nothing.
 --     state_of b          the meaning of the books b
+--     sizes_of z          how many open places, read entries, drafts and journal lines the memory z has; what it holds is no part of this
 --     new_state z         books of these sizes before set-up
 --     handed s r          what a commit with the slip s answers, by the decision r: at a conflict the slip is spent
 --     number_given r      the number of the slip that was given
-use Rattle.std.specs.Prelude.{ℕ, cond, [], Ok, Err, Result}
+use Rattle.std.specs.Prelude.{ℕ, cond, [], Ok, Err, Result, vec_len}
 use Rattle.transactions.specs.declared.refusal.Refusal.{Refusal}
 use Rattle.transactions.specs.State.{Sizes, State}
 use Rattle.books.specs.declared.books.Books.{Books}
@@ -11,6 +12,7 @@ use Rattle.transactions.specs.Committing.{ends_by}
 use Rattle.books.specs.declared.slip.Slip.{Slip}
 use Rattle.books.specs.declared.slip.NotCommitted.{NotCommitted}
 use Rattle.books.specs.declared.slip.NotCommitted.TheVariants.{HandedBack, Conflict}
+use Rattle.tables.specs.declared.memory.BooksMemory.{BooksMemory}
 use Rattle.tables.specs.Tables.{Table, table_of}
 use Rattle.journals.specs.Journals.{Log, log_of}
 
@@ -27,6 +29,9 @@ state_with t width given l =
 
 abbrev pub state_of : Books → State
 state_of b = state_with (table_of b.table) b.width b.given (log_of b.journal)
+
+abbrev pub sizes_of : BooksMemory → Sizes
+sizes_of z = record { places = vec_len z.places; reads = vec_len z.reads; drafts = vec_len z.drafts; lines = vec_len z.lines }
 
 abbrev pub new_state : Sizes → State
 new_state z = record { sizes = z; cards = 0; width = 0; places = []; given = 0; journal = [] }

@@ -1,11 +1,11 @@
 // The editors' calls. Each is given the shelf that was set up together with the books.
-ghost use Rattle.std.specs.Prelude.{◌≡◌, vec_len, nat_eq};
+ghost use Rattle.std.specs.Prelude.{◌≡◌, nat_eq};
 ghost use Rattle.shelf.specs.Meaning.{Meaning};
 ghost use Rattle.transactions.specs.State.{last_at};
 ghost use Rattle.transactions.specs.Calls.{set_up_answer, after_set_up, open_answer, Opens, read_answer, after_read, draft_answer, after_draft, abandon_answer, after_end, after_close};
 ghost use Rattle.transactions.specs.Committing.{commit_answer, commit_shelf, commit_books};
 ghost use Rattle.transactions.specs.Promises.{SetUpPromise, OpenPromise, ReadPromise, DraftPromise, CommitPromise, AbandonPromise, ClosePromise};
-ghost use Rattle.books.specs.States.{new_state, handed, number_given};
+ghost use Rattle.books.specs.States.{sizes_of, new_state, handed, number_given};
 ghost use Rattle.catalogue.specs.Kept.{kept, decision};
 
 use books::{Books, BooksMemory, NotCommitted, Slip};
@@ -23,7 +23,7 @@ pub struct Catalogue {
 impl Catalogue {
     // Books that are not set up yet: no place is in use.
     pub fn new(memory: BooksMemory) -> Catalogue
-        ensures { kept result ≡ new_state (record { places = vec_len memory.places; reads = vec_len memory.reads; drafts = vec_len memory.drafts; lines = vec_len memory.lines }) }
+        ensures { kept result ≡ new_state (sizes_of memory) }
     {
         Catalogue {
             books: Books::new(memory),

@@ -14,10 +14,9 @@ use tables::OpenTable;
 fn is_current<S: Shelf>(shelf: &S, table: &OpenTable, place: usize, card: CardNo) -> bool
     ensures { result ≡ is_version (version_read (at (list_of table.now) place).reads card.0) (newest (S.meaning shelf.now) card.0) }
 {
-    match table.version_read(place, card) {
-        Some(version) => version.0 == newest_of(shelf, card).0,
-        None => false,
-    }
+    table
+        .version_read(place, card)
+        .is_some_and(|version| version == newest_of(shelf, card))
 }
 
 // Whether a card that the transaction in a place has drafted has another newest version than the one read.

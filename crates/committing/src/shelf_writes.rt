@@ -5,7 +5,7 @@ ghost use Rattle.entries.specs.Numbers.{apart};
 ghost use Rattle.entries.specs.Contents.{reading, drafting, draft_cards, opening};
 
 use crate::new_stamp::new_stamp;
-use entries::{DraftEntry, ReadEntry, next_from};
+use entries::{DraftEntry, ReadEntry, rising};
 use shelf::Shelf;
 use stamps::{CardNo, TxNo};
 
@@ -13,45 +13,34 @@ use stamps::{CardNo, TxNo};
 fn share<S: Shelf>(shelf: &S, one: CardNo, other: CardNo) -> bool
     ensures { result ≡ (S.meaning shelf.now).shares one.0 other.0 }
 {
-    match shelf.shares(one, other) {
-        Some(shared) => shared,
-        None => false,
-    }
+    shelf.shares(one, other).unwrap_or(false)
 }
 
 // The free places of a card's drawer, none where the shelf lacks the card.
 fn free_of<S: Shelf>(shelf: &S, card: CardNo) -> u32
     ensures { result ≡ (S.meaning shelf.now).free card.0 }
 {
-    match shelf.free(card) {
-        Some(free) => free,
-        None => 0,
-    }
+    shelf.free(card).unwrap_or(0)
 }
 
 // How many of the drafts are for cards in the drawer of a card.
 fn drafts_in_drawer<S: Shelf>(shelf: &S, card: CardNo, drafts: &[DraftEntry]) -> usize
     ensures { result ≡ in_drawer (S.meaning shelf.now) card.0 (map drafting drafts.now) }
 {
-    let mut count = 0;
-    for draft in drafts {
-        if share(shelf, card, draft.card) {
-            count += 1;
-        }
-    }
-    count
+    drafts
+        .iter()
+        .filter(|draft| share(shelf, card, draft.card))
+        .count()
 }
 
 // Whether the drafts in one drawer outnumber its free places.
 pub fn is_crowded<S: Shelf>(shelf: &S, drafts: &[DraftEntry]) -> bool
     ensures { result ≡ crowded (S.meaning shelf.now) (map drafting drafts.now) }
 {
-    for draft in drafts {
-        if (free_of(shelf, draft.card) as usize) < drafts_in_drawer(shelf, draft.card, drafts) {
-            return true;
-        }
-    }
-    false
+    drafts.iter().any(|draft| {
+        let free = free_of(shelf, draft.card) as usize;
+        free < drafts_in_drawer(shelf, draft.card, drafts)
+    })
 }
 
 // Puts the drafts of a transaction, in rising card order.
@@ -62,10 +51,7 @@ pub fn put_drafts<S: Shelf>(shelf: &mut S, writer: TxNo, reads: &[ReadEntry], dr
 {
     let width = shelf.width() as usize;
     let counts = new_stamp(shelf, reads, drafts).list();
-    let mut from = 0;
-    while let Some(next) = next_from(drafts, from) {
-        let draft = drafts[next.place];
+    for draft in rising(drafts) {
         let _ = shelf.put(draft.card, draft.value, writer, &counts[0..width]);
-        from = next.number + 1;
     }
 }

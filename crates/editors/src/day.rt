@@ -4,7 +4,7 @@ ghost use Rattle.std.specs.Prelude.{◌≤◌, length, IfOk};
 use crate::parse::{BooksSize, Instruction, parse};
 use crate::show::Shown;
 use catalogue::BooksMemory;
-use sessions::{Answer, Command, history_file, run};
+use sessions::{Answer, Command, FileFault, history_file, run};
 use shelves::Shelf;
 use std::alloc::{AllocError, Global};
 use std::{fs, io, slice};
@@ -89,8 +89,9 @@ fn save(rt: &HostRuntime, file: &str, answer: Option<&Answer>) -> Result<bool, A
     let Some(Answer::Journal(lines)) = answer else {
         return Ok(false);
     };
-    let Some(bytes) = history_file(rt.alloc(), lines)? else {
-        return Ok(false);
-    };
-    Ok(fs::write(rt, file, &bytes).is_ok())
+    match history_file(rt.alloc(), lines) {
+        Ok(bytes) => Ok(fs::write(rt, file, &bytes).is_ok()),
+        Err(FileFault::Line(_)) => Ok(false),
+        Err(FileFault::Memory(error)) => Err(error),
+    }
 }

@@ -1,15 +1,18 @@
 -- Readings and drafts as lists of cards. Assumes nothing.
-use Rattle.std.proofs.Common.{◌≡◌, ℕ, zero, suc, ◌<◌, Bool, true, false, cond, ◌||◌, eqb, List, [], ◌∷◌, ◌++◌, map, length, get_or, set, Some, None, sym, refl, ap, ◌∙◌, arith}
+use Rattle.std.proofs.Common.{◌≡◌, ℕ, zero, suc, ◌<◌, Bool, true, false, cond, ◌||◌, eqb, List, [], ◌∷◌, ◌++◌, map, length, get_or, set, Some, None, Option, sym, refl, ap, ◌∙◌, arith}
+use Rattle.std.specs.List.{list_any, slice_get}
+use Rattle.std.specs.Option.{option_map, option_and_then, unwrap_or}
 use Rattle.std.proofs.lemmas.List.{length-map, get_or-map}
+use Rattle.std.proofs.lemmas.Option.{slice_get-get_or}
 use Rattle.std.proofs.lemmas.Bool.{eq-eqb, eqb-true, or_parts, or_from, or_left, or_right, cond-true, cond-false}
 use Rattle.stamps.specs.declared.value.Value.{Value}
 use Rattle.isolation.specs.Account.{Reading, Draft, has_read, drafted, draft_of, with_draft}
 use Rattle.transactions.specs.Choosing.{version_read}
-use Rattle.entries.specs.Numbers.{member, apart, any_of}
+use Rattle.entries.specs.Numbers.{member, apart, last_of}
 use Rattle.entries.specs.declared.entries.ReadEntry.{ReadEntry}
 use Rattle.entries.specs.declared.entries.DraftEntry.{DraftEntry}
 use Rattle.entries.specs.Contents.{reading, drafting, read_cards, draft_cards}
-use Rattle.entries.proofs.Last.{last_at_holds}
+use Rattle.entries.proofs.Last.{last_at_holds, last_at_none}
 use Rattle.transactions.specs.State.{last_at}
 use Rattle.entries.proofs.Apart.{apart_parts, apart_first}
 
@@ -78,11 +81,11 @@ pub reading_cards : (es : List ReadEntry) → read_cards (map reading es) ≡ ma
 reading_cards [] = refl
 reading_cards (e ∷ es) = ap (λ l. e.card.0 ∷ l) (reading_cards es)
 
-pub drafted_any : (es : List DraftEntry) (x : ℕ) → any_of (λ e. eqb e.card.0 x) es ≡ drafted (map drafting es) x
+pub drafted_any : (es : List DraftEntry) (x : ℕ) → list_any (λ e. eqb e.card.0 x) es ≡ drafted (map drafting es) x
 drafted_any [] x = refl
 drafted_any (e ∷ es) x = ap (λ b. eqb e.card.0 x || b) (drafted_any es x)
 
-pub read_any : (es : List ReadEntry) (x : ℕ) → any_of (λ e. eqb e.card.0 x) es ≡ has_read (map reading es) x
+pub read_any : (es : List ReadEntry) (x : ℕ) → list_any (λ e. eqb e.card.0 x) es ≡ has_read (map reading es) x
 read_any [] x = refl
 read_any (e ∷ es) x = ap (λ b. eqb e.card.0 x || b) (read_any es x)
 
@@ -107,6 +110,32 @@ found_words n es x j d v ok e =
     let f = found_card (λ y. y.card.0) es x j d e in
     draft_of_at n (map drafting es) j x v (drafting d) ok (simp length-map f.0) (ap (λ l. get_or l j 0) (drafting_cards es) ∙ f.1)
     ∙ ap (λ r. r.value) (get_or-map drafting es j d (drafting d) f.0)
+
+-- what the last entry of a card says
+pub last_version : (n : ℕ) (es : List ReadEntry) (x : ℕ) → apart n (read_cards (map reading es)) ≡ true →
+    option_map (λ e. e.version.0) (last_of (λ e. eqb e.card.0 x) es) ≡ version_read (map reading es) x
+last_version n es x ok = go (last_at (λ e. eqb e.card.0 x) es) refl
+  where
+    none : ReadEntry
+    none = record { card = record { 0 = 0 }; version = record { 0 = 0 } }
+
+    go : (o : Option ℕ) → last_at (λ e. eqb e.card.0 x) es ≡ o → option_map (λ e. e.version.0) (option_and_then (slice_get es) o) ≡ version_read (map reading es) x
+    go None e = sym (version_read_none (map reading es) x (sym (read_any es x) ∙ last_at_none (λ y. eqb y.card.0 x) es e))
+    go (Some j) e =
+        ap (option_map (λ y. y.version.0)) (slice_get-get_or es j none (found_card (λ y. y.card.0) es x j none e).0) ∙ sym (found_version n es x j none ok e)
+
+pub last_words : (n : ℕ) (es : List DraftEntry) (x : ℕ) (v : Value) → apart n (draft_cards (map drafting es)) ≡ true →
+    unwrap_or (option_map (λ e. e.value) (last_of (λ e. eqb e.card.0 x) es)) v ≡ draft_of (map drafting es) x v
+last_words n es x v ok = go (last_at (λ e. eqb e.card.0 x) es) refl
+  where
+    none : DraftEntry
+    none = record { card = record { 0 = 0 }; value = v }
+
+    go : (o : Option ℕ) → last_at (λ e. eqb e.card.0 x) es ≡ o → unwrap_or (option_map (λ e. e.value) (option_and_then (slice_get es) o)) v ≡ draft_of (map drafting es) x v
+    go None e = sym (draft_of_none (map drafting es) x v (sym (drafted_any es x) ∙ last_at_none (λ y. eqb y.card.0 x) es e))
+    go (Some j) e =
+        ap (λ o. unwrap_or (option_map (λ y. y.value) o) v) (slice_get-get_or es j none (found_card (λ y. y.card.0) es x j none e).0)
+        ∙ sym (found_words n es x j none v ok e)
 
 pub version_read_has : (rs : List Reading) (x k : ℕ) → version_read rs x ≡ Some k → has_read rs x ≡ true
 version_read_has [] x k e = let z : ◌≡◌ {A = ℕ} 0 1 = cc in absurd (omega arith)

@@ -1,55 +1,45 @@
 -- The last element that passes a test. Assumes nothing.
-use Rattle.std.proofs.Common.{◌≡◌, ℕ, suc, ◌+◌, ◌-◌, ◌<◌, ◌≤◌, Bool, true, false, cond, ◌||◌, ◌⊎◌, List, [], ◌∷◌, ◌++◌, length, get_or, take, is_some, Some, None, Option, sym, refl, ap, ◌∙◌, inl, inr, ⊎_elim, arith}
-use Rattle.std.proofs.lemmas.List.{take_more, length-take-le}
+use Rattle.std.proofs.Common.{◌≡◌, ℕ, zero, suc, ◌+◌, ◌<◌, Bool, true, false, cond, ◌||◌, ◌⊎◌, List, [], ◌∷◌, length, get_or, is_some, Some, None, Option, MatchOption, sym, refl, ap, ◌∙◌, inl, inr, ⊎_elim, arith}
+use Rattle.std.specs.List.{list_any, HoldsAt}
 use Rattle.std.proofs.lemmas.Bool.{or_from}
 use Rattle.transactions.specs.State.{last_from, last_at}
-use Rattle.entries.specs.Numbers.{any_of}
 
-pub last_from_push : {X : Type 0} (p : X → Bool) (xs : List X) (x : X) (i : ℕ) (found : Option ℕ) →
-    last_from p (xs ++ x ∷ []) i found ≡ cond (p x) (Some (i + length xs)) (last_from p xs i found)
-last_from_push p [] x i found = let e : i + 0 ≡ i = omega arith in rw e
-last_from_push p (y ∷ xs) x i found =
-    let e : suc i + length xs ≡ i + suc (length xs) = omega arith in
-    last_from_push p xs x (suc i) (cond (p y) (Some i) found)
-    ∙ ap (λ n. cond (p x) (Some n) (last_from p xs (suc i) (cond (p y) (Some i) found))) e
+-- past the last element that passes, nothing is found
+last_from_rest : {X : Type 0} (p : X → Bool) (xs : List X) (i : ℕ) (found : Option ℕ) →
+    ((k : ℕ) → k < length xs → HoldsAt (λ y. p y ≡ false) xs k) → last_from p xs i found ≡ found
+last_from_rest p [] i found none = refl
+last_from_rest p (x ∷ xs) i found none =
+    ap (λ b. last_from p xs (suc i) (cond b (Some i) found)) (none 0 (omega arith) x)
+    ∙ last_from_rest p xs (suc i) found (λ k h. none (suc k) (omega arith))
 
--- one element more in view
-pub last_at_more : {X : Type 0} (p : X → Bool) (xs : List X) (i : ℕ) (x : X) → i < length xs → x ≡ get_or xs i x →
-    last_at p (take (i + 1) xs) ≡ cond (p x) (Some i) (last_at p (take i xs))
-last_at_more p xs i x h e =
-    let n : length (take i xs) ≡ i = length-take-le i xs (omega arith) in
-    ap (last_at p) (take_more xs i x h ∙ ap (λ y. take i xs ++ y ∷ []) (sym e))
-    ∙ last_from_push p (take i xs) x 0 None
-    ∙ ap (λ k. cond (p x) (Some k) (last_at p (take i xs))) (omega arith)
+last_from_is : {X : Type 0} (p : X → Bool) (xs : List X) (i j : ℕ) (found : Option ℕ) → j < length xs → HoldsAt (λ y. p y ≡ true) xs j →
+    ((k : ℕ) → j < k → k < length xs → HoldsAt (λ y. p y ≡ false) xs k) → last_from p xs i found ≡ Some (i + j)
+last_from_is p [] i j found h here after = absurd (omega arith)
+last_from_is p (x ∷ xs) i zero found h here after =
+    ap (λ b. last_from p xs (suc i) (cond b (Some i) found)) (here x)
+    ∙ last_from_rest p xs (suc i) (Some i) (λ k l. after (suc k) (omega arith) (omega arith)) ∙ ap Some (omega arith)
+last_from_is p (x ∷ xs) i (suc j) found h here after =
+    last_from_is p xs (suc i) j (cond (p x) (Some i) found) (omega arith) here (λ k l m. after (suc k) (omega arith) (omega arith)) ∙ ap Some (omega arith)
 
--- the same, going down: the element below i
-pub last_at_down : {X : Type 0} (p : X → Bool) (xs : List X) (i : ℕ) (x : X) → 0 < i → i ≤ length xs → x ≡ get_or xs (i - 1) x →
-    last_at p (take i xs) ≡ cond (p x) (Some (i - 1)) (last_at p (take (i - 1) xs))
-last_at_down p xs i x h h' e =
-    let up : (i - 1) + 1 ≡ i = omega arith in
-    ap (λ k. last_at p (take k xs)) (sym up) ∙ last_at_more p xs (i - 1) x (omega arith) e
+-- a place is that of the last element that passes, by what is known of it and of those behind
+pub last_at_told : {X : Type 0} (p : X → Bool) (xs : List X) (r : Option ℕ) →
+    MatchOption r ((k : ℕ) → k < length xs → HoldsAt (λ y. p y ≡ false) xs k)
+    (λ j. (j < length xs) × HoldsAt (λ y. p y ≡ true) xs j × ((k : ℕ) → j < k → k < length xs → HoldsAt (λ y. p y ≡ false) xs k)) → r ≡ last_at p xs
+last_at_told p xs None none = sym (last_from_rest p xs 0 None none)
+last_at_told p xs (Some j) (h, here, after) = ap Some (omega arith) ∙ sym (last_from_is p xs 0 j None h here after)
 
--- a loop that goes down from the end: it passes on, or has found
-pub last_at_passed : {X : Type 0} (p : X → Bool) (xs : List X) (i : ℕ) (x : X) (t : Bool) → 0 < i → i ≤ length xs → x ≡ get_or xs (i - 1) x →
-    t ≡ p x → t ≡ false → last_at p xs ≡ last_at p (take i xs) → last_at p xs ≡ last_at p (take (i - 1) xs)
-last_at_passed p xs i x t h h' e test out inv = let step = last_at_down p xs i x h h' e in cc
-
-pub last_at_found : {X : Type 0} (p : X → Bool) (xs : List X) (i : ℕ) (x : X) (t : Bool) → 0 < i → i ≤ length xs → x ≡ get_or xs (i - 1) x →
-    t ≡ p x → t ≡ true → last_at p xs ≡ last_at p (take i xs) → Some (i - 1) ≡ last_at p xs
-last_at_found p xs i x t h h' e test out inv = let step = last_at_down p xs i x h h' e in cc
-
-pub last_any_from : {X : Type 0} (p : X → Bool) (xs : List X) (i : ℕ) (found : Option ℕ) → is_some (last_from p xs i found) ≡ (is_some found || any_of p xs)
+last_any_from : {X : Type 0} (p : X → Bool) (xs : List X) (i : ℕ) (found : Option ℕ) → is_some (last_from p xs i found) ≡ (is_some found || list_any p xs)
 last_any_from p [] i None = refl
 last_any_from p [] i (Some f) = refl
 last_any_from p (x ∷ xs) i found = last_any_from p xs (suc i) (cond (p x) (Some i) found) ∙ go (p x) found
   where
-    go : (b : Bool) (found : Option ℕ) → (is_some (cond b (Some i) found) || any_of p xs) ≡ (is_some found || (b || any_of p xs))
+    go : (b : Bool) (found : Option ℕ) → (is_some (cond b (Some i) found) || list_any p xs) ≡ (is_some found || (b || list_any p xs))
     go true None = refl
     go true (Some f) = refl
     go false None = refl
     go false (Some f) = refl
 
-pub last_any : {X : Type 0} (p : X → Bool) (xs : List X) → is_some (last_at p xs) ≡ any_of p xs
+pub last_any : {X : Type 0} (p : X → Bool) (xs : List X) → is_some (last_at p xs) ≡ list_any p xs
 last_any p xs = last_any_from p xs 0 None
 
 pub last_from_some : {X : Type 0} (p : X → Bool) (xs : List X) (i f : ℕ) → last_from p xs i (Some f) ≡ None → ⊥
@@ -60,16 +50,16 @@ last_from_some p (x ∷ xs) i f e = go (p x) (last_from_some p xs (suc i)) e
     go true rest e = rest i e
     go false rest e = rest f e
 
-pub last_from_none : {X : Type 0} (p : X → Bool) (xs : List X) (i : ℕ) → last_from p xs i None ≡ None → any_of p xs ≡ false
+pub last_from_none : {X : Type 0} (p : X → Bool) (xs : List X) (i : ℕ) → last_from p xs i None ≡ None → list_any p xs ≡ false
 last_from_none p [] i e = refl
 last_from_none p (x ∷ xs) i e = go (p x) refl (last_from_none p xs (suc i)) e
   where
-    go : (b : Bool) → p x ≡ b → (last_from p xs (suc i) None ≡ None → any_of p xs ≡ false) → last_from p xs (suc i) (cond b (Some i) None) ≡ None →
-        (p x || any_of p xs) ≡ false
+    go : (b : Bool) → p x ≡ b → (last_from p xs (suc i) None ≡ None → list_any p xs ≡ false) → last_from p xs (suc i) (cond b (Some i) None) ≡ None →
+        (p x || list_any p xs) ≡ false
     go true t rest e = absurd (last_from_some p xs (suc i) i e)
-    go false t rest e = or_from (p x) (any_of p xs) t (rest e)
+    go false t rest e = or_from (p x) (list_any p xs) t (rest e)
 
-pub last_at_none : {X : Type 0} (p : X → Bool) (xs : List X) → last_at p xs ≡ None → any_of p xs ≡ false
+pub last_at_none : {X : Type 0} (p : X → Bool) (xs : List X) → last_at p xs ≡ None → list_any p xs ≡ false
 last_at_none p xs e = last_from_none p xs 0 e
 
 -- element j, counted from i, passes

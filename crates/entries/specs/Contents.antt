@@ -1,25 +1,18 @@
 -- What entries say. Assumes nothing.
 --     reading, drafting   what an entry of the reads says, and one of the drafts
---     number_of e         the number of a place's transaction, none for a free place
 --     read_cards, draft_cards         the cards of readings and of drafts
 --     opening n rs ds     the open transaction n with these readings and drafts
-use Rattle.std.specs.Prelude.{ℕ, List, map, Some, None, Option}
+use Rattle.std.specs.Prelude.{ℕ, List, map}
 use Rattle.isolation.specs.Account.{Reading, Draft}
 use Rattle.transactions.specs.State.{Open}
 use Rattle.entries.specs.declared.entries.ReadEntry.{ReadEntry}
 use Rattle.entries.specs.declared.entries.DraftEntry.{DraftEntry}
-use Rattle.entries.specs.declared.entries.OpenPlace.{OpenPlace}
-use Rattle.entries.specs.declared.entries.OpenPlace.TheVariants as place
 
 abbrev pub reading : ReadEntry → Reading
 reading e = record { card = e.card.0; version = e.version.0 }
 
 abbrev pub drafting : DraftEntry → Draft
 drafting e = record { card = e.card.0; value = e.value }
-
-abbrev pub number_of : OpenPlace → Option ℕ
-number_of place.Free = None
-number_of (place.Open t) = Some t.number.0
 
 abbrev pub read_cards : List Reading → List ℕ
 read_cards rs = map (λ r. r.card) rs

@@ -1,3 +1,4 @@
 pub mod Numbers
 pub mod Least
 pub mod Contents
+pub mod Rising

@@ -23,9 +23,5 @@ pub struct Taken {
     pub drafts: usize,
 }
 
-// A place for an open transaction.
-#[derive(Clone, Copy)]
-pub enum OpenPlace {
-    Free,
-    Open(Taken),
-}
+// A place for an open transaction, none where it is free.
+pub type OpenPlace = Option<Taken>;

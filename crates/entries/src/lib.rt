@@ -2,7 +2,9 @@
 #![tactic(auto)]
 
 mod entries;
+mod order;
 mod search;
 
 pub use entries::{DraftEntry, OpenPlace, ReadEntry, Taken};
-pub use search::{Next, Numbered, any_with, last_with, next_from};
+pub use order::{RisingEntries, rising};
+pub use search::{Next, Numbered, any_with, last_entry, last_with, next_from};

@@ -3,7 +3,7 @@
 --     log_of j            the meaning of the journal j
 --     log_room l          how many more lines it takes
 --     with_line l x, with_lines l xs      l with one line more, or several
-use Rattle.std.specs.Prelude.{ℕ, ◌-◌, List, [], ◌∷◌, ◌++◌, length, take, vec_items, vec_len}
+use Rattle.std.specs.Prelude.{ℕ, ◌-◌, List, [], ◌∷◌, ◌++◌, length, vec_items}
 use Rattle.records.specs.declared.line.Line.{Line}
 use Rattle.journals.specs.declared.journal.Journal.{Journal}
 
@@ -12,7 +12,7 @@ pub record Log : Type 0 where
   pub lines : List Line
 
 abbrev pub log_of : Journal → Log
-log_of j = record { size = vec_len j.lines; lines = take j.count (vec_items j.lines) }
+log_of j = record { size = j.size; lines = vec_items j.lines }
 
 abbrev pub log_room : Log → ℕ
 log_room l = l.size - length l.lines

@@ -8,11 +8,11 @@ ghost use Rattle.entries.specs.Numbers.{apart};
 ghost use Rattle.entries.specs.Contents.{reading, drafting, read_cards, draft_cards, opening};
 
 use crate::journal::Journal;
-use crate::rising::{NO_WORDS, log_each};
+use crate::rising::log_each;
 use entries::{DraftEntry, ReadEntry};
 use records::{Kind, Line};
 use shelf::Shelf;
-use stamps::{CardNo, TxNo};
+use stamps::{CardNo, TxNo, Value};
 
 // The line that ends a block.
 fn done(number: TxNo) -> Line
@@ -23,7 +23,7 @@ fn done(number: TxNo) -> Line
         transaction: number,
         card: CardNo(0),
         writer: TxNo(0),
-        value: NO_WORDS,
+        value: Value::BLANK,
     }
 }
 

@@ -1,15 +1,16 @@
 // The journal of commits.
-ghost use Rattle.std.specs.Prelude.{◌≤◌, vec_len};
+ghost use Rattle.std.specs.Prelude.{◌≤◌, vec_len, vec_capacity};
 
 use records::Line;
 
 mod calls;
 
-// Lines that are written from the first on.
+// Lines that are written from the first on, in memory for so many.
 #[derive(Drop)]
 pub struct Journal {
     lines: Vec<Line>,
-    // How many lines are written.
-    count: usize,
-    ghost within: { count ≤ vec_len lines },
+    // How many lines there is memory for.
+    size: usize,
+    ghost within: { vec_len lines ≤ size },
+    ghost lent: { size ≤ vec_capacity lines },
 }

@@ -1,6 +1,7 @@
 -- A file that is made record by record.
 use Rattle.std.proofs.Common.{◌≡◌, ℕ, zero, suc, ◌+◌, ◌-◌, ◌*◌, ◌<◌, ◌≤◌, Bool, true, false, cond, not, ◌&&◌, eqb, List, [], ◌∷◌, ◌++◌, length, get_or, take, drop, is_some, is_ok, is_err, Some, None, Ok, Err, Option, Result, sym, refl, ap, ◌∙◌, subst, append_assoc, append-nil, arith}
 use Rattle.std.specs.List.{between, AllByRecursion as All}
+use Rattle.std.specs.Option.{option_or}
 use Rattle.std.proofs.lemmas.List.{take_at, take_all, take_more}
 use Rattle.std.proofs.ByRecursion.{All-push}
 use Rattle.std.proofs.lemmas.Bool.{eqb-true}
@@ -11,7 +12,7 @@ use Rattle.records.specs.declared.line.Line.{Line}
 use Rattle.records.specs.Format.{kind_of, read_as, fault_of, decoded, encoded, written, writes}
 use Rattle.transactions.specs.Journal.{InFile}
 use Rattle.transactions.proofs.Places.{none_some, some_same, ok_not_err}
-use Rattle.sessions.specs.Files.{all_good, file_of, Filed}
+use Rattle.sessions.specs.Files.{all_good, file_of, Filed, first_fault}
 
 -- a line's record reads back as the line
 abbrev pub ReadsBack : Line → Type 0
@@ -70,13 +71,24 @@ bad_at (x ∷ ls) (suc i) d lt b = go (not (is_some (fault_of x))) (bad_at ls i 
     go true rest = rest
     go false rest = refl
 
--- what an answer of `encode` into a whole record says of the fields
-pub bad_field : (l : Line) (r : Result (Unit {0}) RecordFault) → r ≡ writes l 32 → is_err r ≡ true → is_some (fault_of l) ≡ true
-bad_field l r e h = go (fault_of l) (sym (ap is_err e) ∙ h)
+-- the first bad line
+pub first_at : (ls : List Line) (i : ℕ) (d : Line) (f : RecordFault) → i < length ls → all_good (take i ls) ≡ true → fault_of (get_or ls i d) ≡ Some f →
+    first_fault ls ≡ Some f
+first_at [] i d f lt good is = absurd (omega arith)
+first_at (x ∷ ls) zero d f lt good is = ap (λ o. option_or o (first_fault ls)) is
+first_at (x ∷ ls) (suc i) d f lt good is = go (fault_of x) good (λ h. first_at ls i d f (omega arith) h is)
   where
-    go : (o : Option RecordFault) → is_err (written o) ≡ true → is_some o ≡ true
-    go None q = absurd (let z : ◌≡◌ {A = ℕ} 0 1 = cc in omega arith)
-    go (Some f) q = refl
+    go : (o : Option RecordFault) → (not (is_some o) && all_good (take i ls)) ≡ true → (all_good (take i ls) ≡ true → first_fault ls ≡ Some f) → option_or o (first_fault ls) ≡ Some f
+    go None h rest = rest h
+    go (Some g) h rest = let z : ◌≡◌ {A = ℕ} 0 1 = cc in absurd (omega arith)
+
+-- what an answer of `encode` into a whole record says of the fields
+pub bad_field : (l : Line) (f : RecordFault) → Err f ≡ writes l 32 → fault_of l ≡ Some f
+bad_field l f e = go (fault_of l) e
+  where
+    go : (o : Option RecordFault) → Err f ≡ written o → o ≡ Some f
+    go None q = let z : ◌≡◌ {A = ℕ} 0 1 = cc in absurd (omega arith)
+    go (Some g) q = cc
 
 no_fault : (l : Line) (r : Result (Unit {0}) RecordFault) → r ≡ writes l 32 → is_err r ≡ false → fault_of l ≡ None
 no_fault l r e h = go (fault_of l) (sym (ap is_err e) ∙ h)

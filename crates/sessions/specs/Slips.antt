@@ -16,7 +16,7 @@ use Rattle.transactions.specs.Committing.{ends_by}
 use Rattle.books.specs.declared.slip.Slip.{Slip}
 use Rattle.books.specs.declared.slip.NotCommitted.{NotCommitted}
 use Rattle.books.specs.declared.slip.NotCommitted.TheVariants.{HandedBack, Conflict}
-use Rattle.entries.specs.Numbers.{any_of}
+use Rattle.std.specs.List.{list_any}
 use Rattle.sessions.specs.declared.answer.Answer.{Answer}
 use Rattle.sessions.specs.declared.answer.Answer.TheVariants as answers
 
@@ -24,7 +24,7 @@ abbrev pub is_for : ℕ → Slip → Bool
 is_for t s = s.number.0 == t
 
 abbrev pub holds : List Slip → ℕ → Bool
-holds xs t = any_of (is_for t) xs
+holds xs t = list_any (is_for t) xs
 
 abbrev pub less : List Slip → Option ℕ → List Slip
 less xs None = xs

@@ -3,6 +3,7 @@
 
 pub mod answer;
 pub mod command;
+mod fault;
 mod file;
 mod session;
 mod slips;
@@ -10,5 +11,6 @@ mod whole;
 
 pub use answer::Answer;
 pub use command::Command;
+pub use fault::FileFault;
 pub use file::history_file;
 pub use whole::run;

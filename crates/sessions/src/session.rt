@@ -1,6 +1,6 @@
 // The books of a session and the slips in hand: each command is answered by one call, or by what is asked of the shelf.
-ghost use Rattle.std.specs.Prelude.{◌≡◌, List, [], IfOk, vec_len};
-ghost use Rattle.books.specs.States.{new_state};
+ghost use Rattle.std.specs.Prelude.{◌≡◌, List, [], IfOk};
+ghost use Rattle.books.specs.States.{sizes_of, new_state};
 ghost use Rattle.catalogue.specs.Kept.{kept};
 ghost use Rattle.sessions.specs.Exactly.{Replied};
 ghost use Rattle.sessions.specs.declared.command.Command.TheVariants as commands;
@@ -23,7 +23,7 @@ pub(crate) struct Session {
 impl Session {
     // Books that are not set up yet, and no slip in hand.
     pub(crate) fn new(heap: Global, memory: BooksMemory) -> Session
-        ensures books { kept result.catalogue ≡ new_state (record { places = vec_len memory.places; reads = vec_len memory.reads; drafts = vec_len memory.drafts; lines = vec_len memory.lines }) }
+        ensures books { kept result.catalogue ≡ new_state (sizes_of memory) }
         ensures slips { result.slips.items ≡ [] }
     {
         Session {
@@ -58,25 +58,21 @@ impl Session {
     fn read<S: Shelf>(&mut self, shelf: &S, number: TxNo, card: CardNo) -> Answer
         ensures { Replied (S.meaning shelf.now) (kept self.old.catalogue) self.old.slips.items (commands.Read number card) result (S.meaning shelf.now) (kept self.new.catalogue) self.new.slips.items }
     {
-        match slip_of(&self.slips, number) {
-            Some(slip) => {
-                let read = self.catalogue.read(shelf, slip, card);
-                Answer::Call(Event::Read(number, card, read))
-            }
-            None => Answer::NoSlip,
-        }
+        let Some(slip) = slip_of(&self.slips, number) else {
+            return Answer::NoSlip;
+        };
+        let read = self.catalogue.read(shelf, slip, card);
+        Answer::Call(Event::Read(number, card, read))
     }
 
     fn draft<S: Shelf>(&mut self, shelf: &S, number: TxNo, card: CardNo, value: Value) -> Answer
         ensures { Replied (S.meaning shelf.now) (kept self.old.catalogue) self.old.slips.items (commands.Draft number card value) result (S.meaning shelf.now) (kept self.new.catalogue) self.new.slips.items }
     {
-        match slip_of(&self.slips, number) {
-            Some(slip) => {
-                let drafted = self.catalogue.draft(slip, card, value);
-                Answer::Call(Event::Draft(number, card, value, drafted))
-            }
-            None => Answer::NoSlip,
-        }
+        let Some(slip) = slip_of(&self.slips, number) else {
+            return Answer::NoSlip;
+        };
+        let drafted = self.catalogue.draft(slip, card, value);
+        Answer::Call(Event::Draft(number, card, value, drafted))
     }
 
     // A slip that is handed back is kept.
@@ -94,13 +90,11 @@ impl Session {
     fn abandon<S: Shelf>(&mut self, shelf: &S, number: TxNo) -> Answer
         ensures { Replied (S.meaning shelf.now) (kept self.old.catalogue) self.old.slips.items (commands.Abandon number) result (S.meaning shelf.now) (kept self.new.catalogue) self.new.slips.items }
     {
-        match take_slip(&mut self.slips, number) {
-            Some(slip) => {
-                let ended = self.catalogue.abandon(slip);
-                Answer::Call(Event::Abandon(number, ended))
-            }
-            None => Answer::NoSlip,
-        }
+        let Some(slip) = take_slip(&mut self.slips, number) else {
+            return Answer::NoSlip;
+        };
+        let ended = self.catalogue.abandon(slip);
+        Answer::Call(Event::Abandon(number, ended))
     }
 
     // The slips are kept, and are no longer open.

@@ -4,18 +4,15 @@ ghost use Rattle.catalogue.specs.Kept.{decision};
 ghost use Rattle.sessions.specs.Slips.{holds, without, with_returned};
 
 use books::{NotCommitted, Slip};
-use entries::last_with;
+use entries::{last_entry, last_with};
 use stamps::TxNo;
 use transactions::Refusal;
 
 // The slip of a transaction, to show.
-pub(crate) fn slip_of<'a>(slips: &'a [Slip], number: TxNo) -> Option<&'a Slip>
+pub(crate) fn slip_of(slips: &[Slip], number: TxNo) -> Option<&Slip>
     ensures { MatchOption result (holds slips.now number.0 ≡ false) (λ s. (holds slips.now number.0 ≡ true) × (s.now.number ≡ number)) }
 {
-    match last_with(slips, number.0) {
-        Some(place) => Some(&slips[place]),
-        None => None,
-    }
+    last_entry(slips, number.0)
 }
 
 // The slip of a transaction, to hand in.
@@ -24,10 +21,8 @@ pub(crate) fn take_slip(slips: &mut Vec<Slip>, number: TxNo) -> Option<Slip>
     ensures rest { slips.new.items ≡ without slips.old.items number.0 }
     ensures room { OnSome result (vec_len slips.new < vec_capacity slips.new) }
 {
-    match last_with(slips.as_slice(), number.0) {
-        Some(place) => Some(slips.remove(place)),
-        None => None,
-    }
+    let place = last_with(slips.as_slice(), number.0)?;
+    Some(slips.remove(place))
 }
 
 // What was decided on a commit; a slip that came back is kept.

@@ -1,6 +1,6 @@
 // A whole session.
-ghost use Rattle.std.specs.Prelude.{◌≡◌, [], IfOk, vec_len};
-ghost use Rattle.books.specs.States.{new_state};
+ghost use Rattle.std.specs.Prelude.{◌≡◌, [], IfOk};
+ghost use Rattle.books.specs.States.{sizes_of, new_state};
 ghost use Rattle.catalogue.specs.Kept.{kept};
 ghost use Rattle.sessions.specs.Exactly.{Ran, DoneExactly};
 ghost use Rattle.sessions.specs.Laws.{SessionLaw};
@@ -20,7 +20,7 @@ pub fn run<S: Shelf>(
     shelf: &mut S,
     script: &[Command],
 ) -> Result<Vec<Answer>, AllocError>
-    ensures exact { IfOk result (λ v. DoneExactly (S.meaning shelf.old) (new_state (record { places = vec_len memory.places; reads = vec_len memory.reads; drafts = vec_len memory.drafts; lines = vec_len memory.lines })) script.now v.items (S.meaning shelf.new)) }
+    ensures exact { IfOk result (λ v. DoneExactly (S.meaning shelf.old) (new_state (sizes_of memory)) script.now v.items (S.meaning shelf.new)) }
     ensures law { IfOk result (λ v. SessionLaw (S.meaning shelf.old) script.now v.items (S.meaning shelf.new)) }
 {
     let mut session = Session::new(heap, memory);

@@ -1,9 +1,9 @@
 -- Loops over the cards read, and down the versions. Assumes nothing.
-use Rattle.std.proofs.Common.{◌≡◌, ℕ, zero, suc, ◌+◌, ◌-◌, ◌<◌, ◌≤◌, Bool, true, false, not, ◌&&◌, ◌||◌, ltb, List, map, length, get_or, drop, is_some, Some, None, Option, sym, refl, ap, ◌∙◌, ⊎_elim, add-one, arith}
+use Rattle.std.proofs.Common.{◌≡◌, ℕ, zero, suc, ◌+◌, ◌-◌, ◌<◌, ◌≤◌, Bool, true, false, not, ◌&&◌, ◌||◌, ltb, List, [], ◌∷◌, map, length, get_or, drop, is_some, Some, None, Option, sym, refl, ap, ◌∙◌, arith}
 use Rattle.std.specs.Option.{option_map}
+use Rattle.std.specs.List.{list_any, range_with_len}
 use Rattle.std.proofs.lemmas.List.{at_drop_more, at_drop_all}
-use Rattle.std.proofs.lemmas.Bool.{cond-true, cond-false, or_from, or_left, or_right, lt-ltb, le-ltb, cases_eq, cases_lt}
-use Rattle.stamps.specs.declared.numbers.TxNo.{TxNo}
+use Rattle.std.proofs.lemmas.Bool.{cond-true, cond-false}
 use Rattle.shelf.specs.Meaning.{Meaning, version_at, newest}
 use Rattle.shelf.specs.Questions.{writer_of}
 use Rattle.isolation.specs.Account.{Reading}
@@ -12,19 +12,23 @@ use Rattle.transactions.specs.Choosing.{lacks, fits_one, fits_all, newest_fit}
 use Rattle.entries.specs.declared.entries.ReadEntry.{ReadEntry}
 use Rattle.entries.specs.Contents.{reading}
 
-pub any_written_more : (m : Meaning) (i v : ℕ) → any_written m i ≡ false → v ≡ newest m i → v ≤ 0 → any_written m (i + 1) ≡ false
-any_written_more m i v below e none =
-    ap (any_written m) (add-one i) ∙ or_from (any_written m i) (ltb 0 (newest m i)) below (le-ltb 0 (newest m i) (omega (arith, e)))
+-- one number more, at the end of a range
+range_more : (p : ℕ → Bool) (a n : ℕ) → list_any p (range_with_len a (suc n)) ≡ (list_any p (range_with_len a n) || p (a + n))
+range_more p a zero = or_none (p a) ∙ ap p (omega arith)
+  where
+    or_none : (b : Bool) → (b || false) ≡ b
+    or_none true = refl
+    or_none false = refl
+range_more p a (suc n) = ap (λ b. p a || b) (range_more p (a + 1) n) ∙ go (p a) ∙ ap (λ k. (p a || list_any p (range_with_len (a + 1) n)) || p k) (omega arith)
+  where
+    go : (b : Bool) → (b || (list_any p (range_with_len (a + 1) n) || p (a + 1 + n))) ≡ ((b || list_any p (range_with_len (a + 1) n)) || p (a + 1 + n))
+    go true = refl
+    go false = refl
 
-pub any_written_at : (m : Meaning) (i n v : ℕ) → i < n → v ≡ newest m i → 0 < v → true ≡ any_written m n
-any_written_at m i zero v h e some = absurd (omega arith)
-any_written_at m i (suc n) v h e some =
-    ⊎_elim
-    (λ (same : i ≡ n). sym (or_right (any_written m n) (ltb 0 (newest m n)) (lt-ltb 0 (newest m n) (omega (arith, e, ap (newest m) same)))))
-    (λ (ne : i ≡ n → ⊥).
-    let low : i < n = ⊎_elim (λ (l : i < n). l) (λ (g : n ≤ i). absurd (ne (omega arith))) (cases_lt i n) in
-    sym (or_left (any_written m n) (ltb 0 (newest m n)) (sym (any_written_at m i n v low e some))))
-    (cases_eq i n)
+pub any_written_is : (m : Meaning) (n : ℕ) → list_any (λ x. ltb 0 (newest m x)) (range_with_len 0 n) ≡ any_written m n
+any_written_is m zero = refl
+any_written_is m (suc n) =
+    range_more (λ x. ltb 0 (newest m x)) 0 n ∙ ap (λ b. b || ltb 0 (newest m (0 + n))) (any_written_is m n) ∙ ap (λ k. any_written m n || ltb 0 (newest m k)) (omega arith)
 
 is_some_mapped : {X Y : Type 0} (f : X → Y) (o : Option X) → is_some (option_map f o) ≡ is_some o
 is_some_mapped f None = refl
@@ -33,25 +37,6 @@ is_some_mapped f (Some x) = refl
 module _ (m : Meaning) (es : List ReadEntry) (i : ℕ) (d : ReadEntry) (h : i < length es) where
   abbrev here : ReadEntry
   here = get_or es i d
-
-  -- the writer of a version that was read is there, or not
-  lacked : (w : Option TxNo) (t : Bool) → w ≡ writer_of m here.card.0 here.version.0 → is_some w ≡ not t →
-      is_some (version_at m here.card.0 here.version.0) ≡ not t
-  lacked w t e test = sym (is_some_mapped (λ v. record { 0 = v.writer }) (version_at m here.card.0 here.version.0)) ∙ ap is_some (sym e) ∙ test
-
-  pub lacks_passed : (w : Option TxNo) (t : Bool) → w ≡ writer_of m here.card.0 here.version.0 → is_some w ≡ not t → t ≡ false →
-      lacks m (map reading (drop i es)) ≡ lacks m (map reading es) → lacks m (map reading (drop (i + 1) es)) ≡ lacks m (map reading es)
-  lacks_passed w t e test out inv =
-      let step = at_drop_more (λ l. lacks m (map reading l)) es i d h in
-      let there = lacked w t e test ∙ ap not out in
-      sym (step ∙ ap (λ b. not b || lacks m (map reading (drop (i + 1) es))) there) ∙ inv
-
-  pub lacks_found : (w : Option TxNo) (t : Bool) → w ≡ writer_of m here.card.0 here.version.0 → is_some w ≡ not t → t ≡ true →
-      lacks m (map reading (drop i es)) ≡ lacks m (map reading es) → true ≡ lacks m (map reading es)
-  lacks_found w t e test out inv =
-      let step = at_drop_more (λ l. lacks m (map reading l)) es i d h in
-      let gone = lacked w t e test ∙ ap not out in
-      sym (step ∙ ap (λ b. not b || lacks m (map reading (drop (i + 1) es))) gone) ∙ inv
 
   module _ (x n : ℕ) (t : Bool) (test : t ≡ fits_one m x n (reading here)) (inv : fits_all m x n (map reading (drop i es)) ≡ fits_all m x n (map reading es)) where
     pub fits_passed : t ≡ true → fits_all m x n (map reading (drop (i + 1) es)) ≡ fits_all m x n (map reading es)
@@ -64,9 +49,12 @@ module _ (m : Meaning) (es : List ReadEntry) (i : ℕ) (d : ReadEntry) (h : i < 
         let step = at_drop_more (λ l. fits_all m x n (map reading l)) es i d h in
         sym inv ∙ step ∙ ap (λ b. b && fits_all m x n (map reading (drop (i + 1) es))) (sym test ∙ fails)
 
-pub lacks_end : (m : Meaning) (es : List ReadEntry) (i : ℕ) → length es ≤ i → lacks m (map reading (drop i es)) ≡ lacks m (map reading es) →
-    false ≡ lacks m (map reading es)
-lacks_end m es i h inv = sym (at_drop_all (λ l. lacks m (map reading l)) es i h) ∙ inv
+-- a version that was read has no writer where the shelf lacks it
+pub lacks_is : (m : Meaning) (es : List ReadEntry) → list_any (λ e. not (is_some (writer_of m e.card.0 e.version.0))) es ≡ lacks m (map reading es)
+lacks_is m [] = refl
+lacks_is m (e ∷ es) =
+    ap (λ b. not b || list_any (λ y. not (is_some (writer_of m y.card.0 y.version.0))) es) (is_some_mapped (λ v. record { 0 = v.writer }) (version_at m e.card.0 e.version.0))
+    ∙ ap (λ b. not (is_some (version_at m e.card.0 e.version.0)) || b) (lacks_is m es)
 
 pub fits_end : (m : Meaning) (x n : ℕ) (es : List ReadEntry) (i : ℕ) → length es ≤ i →
     fits_all m x n (map reading (drop i es)) ≡ fits_all m x n (map reading es) → fits_all m x n (map reading es) ≡ true

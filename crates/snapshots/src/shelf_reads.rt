@@ -14,34 +14,23 @@ use stamps::{CardNo, VersionNo};
 pub fn newest_of<S: Shelf>(shelf: &S, card: CardNo) -> VersionNo
     ensures { result.0 ≡ newest (S.meaning shelf.now) card.0 }
 {
-    match shelf.newest(card) {
-        Some(version) => version,
-        None => VersionNo(0),
-    }
+    shelf.newest(card).unwrap_or(VersionNo(0))
 }
 
 // Whether a card has a version above 0.
 pub fn any_written<S: Shelf>(shelf: &S) -> bool
     ensures { result ≡ any_written (S.meaning shelf.now) (S.meaning shelf.now).cards }
 {
-    for card in 0..shelf.cards() {
-        if newest_of(shelf, CardNo(card)).0 > 0 {
-            return true;
-        }
-    }
-    false
+    (0..shelf.cards()).any(|card| newest_of(shelf, CardNo(card)).0 > 0)
 }
 
 // Whether the shelf lacks a version that was read.
 pub fn lacks_any<S: Shelf>(shelf: &S, reads: &[ReadEntry]) -> bool
     ensures { result ≡ lacks (S.meaning shelf.now) (map reading reads.now) }
 {
-    for entry in reads {
-        if shelf.writer(entry.card, entry.version).is_none() {
-            return true;
-        }
-    }
-    false
+    reads
+        .iter()
+        .any(|entry| shelf.writer(entry.card, entry.version).is_none())
 }
 
 // Whether a version of a card fits a card that was read: its count for that card is at most the version read, and its number is at

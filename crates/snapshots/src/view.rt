@@ -19,9 +19,9 @@ pub fn seen<S: Shelf>(
 ) -> Reading
     ensures { result ≡ record { version = version; value = draft_of (at (list_of table.now) place).drafts card.0 (value_at (S.meaning shelf.now) card.0 version.0) } }
 {
-    let value = match table.draft_of(place, card) {
-        Some(value) => value,
-        None => shelf.value(card, version).unwrap_or(Value::BLANK),
-    };
+    let value = table
+        .draft_of(place, card)
+        .or_else(|| shelf.value(card, version))
+        .unwrap_or(Value::BLANK);
     Reading { version, value }
 }

@@ -1,12 +1,10 @@
 -- A reading or a draft is entered into a row of the tables. Assumes nothing.
-use Rattle.std.proofs.Common.{◌≡◌, ℕ, ◌+◌, ◌*◌, ◌<◌, Bool, true, false, leb, List, [], ◌∷◌, ◌++◌, map, length, set, Some, vec_items, unwrap_or, sym, refl, ap, ◌∙◌, arith}
+use Rattle.std.proofs.Common.{Option, ◌≡◌, ℕ, ◌+◌, ◌*◌, ◌<◌, Bool, true, false, leb, List, [], ◌∷◌, ◌++◌, map, length, set, Some, vec_items, unwrap_or, sym, refl, ap, ◌∙◌, arith}
 use Rattle.std.proofs.lemmas.List.{length-map, map_push}
 use Rattle.std.proofs.lemmas.Bool.{and_parts, and_from, le-leb}
 use Rattle.isolation.specs.Account.{has_read}
 use Rattle.transactions.specs.State.{most_drafts}
 use Rattle.entries.specs.declared.entries.ReadEntry.{ReadEntry}
-use Rattle.entries.specs.declared.entries.OpenPlace.{OpenPlace}
-use Rattle.entries.specs.declared.entries.OpenPlace.TheVariants as place
 use Rattle.entries.specs.declared.entries.Taken.{Taken}
 use Rattle.tables.specs.declared.table.OpenTable.{OpenTable}
 use Rattle.entries.specs.Numbers.{apart}
@@ -19,7 +17,7 @@ use Rattle.entries.proofs.Drafts.{has_read_member}
 use Rattle.tables.proofs.Rows.{row_push, row_set_other, length_row}
 use Rattle.tables.proofs.Standing.{at_is, kept_open, open_there, nobody_at, taken_low, reads_end, drafts_end}
 
-module _ (t : OpenTable) (p : ℕ) (k : Taken) (low : p < t.used) (is : entry_at t p ≡ place.Open k) where
+module _ (t : OpenTable) (p : ℕ) (k : Taken) (low : p < t.used) (is : entry_at t p ≡ Some k) where
   pub old_reads : (at (list_of t) p).reads ≡ map reading (row t.cards p k.reads (vec_items t.reads))
   old_reads = ap (λ o. (unwrap_or o nobody).reads) (at_is t p k low is)
 
@@ -59,8 +57,8 @@ module _ (t : OpenTable) (p : ℕ) (k : Taken) (low : p < t.used) (is : entry_at
     abbrev new_reads : List ReadEntry
     new_reads = set (vec_items t.reads) (p * t.cards + k.reads) e
 
-    abbrev pub read_place : OpenPlace
-    read_place = place.Open (record { number = k.number; reads = k.reads + 1; drafts = k.drafts })
+    abbrev pub read_place : Option Taken
+    read_place = Some (record { number = k.number; reads = k.reads + 1; drafts = k.drafts })
 
     pub read_others : Others t.cards p (vec_items t.reads) new_reads
     read_others q n ne le = row_set_other t.cards p q n k.reads (vec_items t.reads) e ne le (reads_room e.card.0 h out)

@@ -1,12 +1,10 @@
 -- A draft is entered into a row of the tables. Assumes nothing.
-use Rattle.std.proofs.Common.{◌≡◌, ℕ, ◌+◌, ◌*◌, ◌<◌, ◌≤◌, true, false, leb, List, [], ◌∷◌, ◌++◌, map, length, get_or, set, Some, vec_items, sym, ap, ◌∙◌, arith}
+use Rattle.std.proofs.Common.{Option, ◌≡◌, ℕ, ◌+◌, ◌*◌, ◌<◌, ◌≤◌, true, false, leb, List, [], ◌∷◌, ◌++◌, map, length, get_or, set, Some, vec_items, sym, ap, ◌∙◌, arith}
 use Rattle.std.proofs.lemmas.List.{map_push, map-set, set-get_or}
 use Rattle.std.proofs.lemmas.Bool.{and_from, le-leb}
 use Rattle.isolation.specs.Account.{drafted, with_draft}
 use Rattle.transactions.specs.State.{Open, most_drafts}
 use Rattle.entries.specs.declared.entries.DraftEntry.{DraftEntry}
-use Rattle.entries.specs.declared.entries.OpenPlace.{OpenPlace}
-use Rattle.entries.specs.declared.entries.OpenPlace.TheVariants as place
 use Rattle.entries.specs.declared.entries.Taken.{Taken}
 use Rattle.tables.specs.declared.table.OpenTable.{OpenTable}
 use Rattle.entries.specs.Numbers.{apart}
@@ -20,13 +18,13 @@ use Rattle.tables.proofs.Entering.{old_reads, old_drafts, old_number, neat_old, 
 use Rattle.tables.proofs.Rows.{row_push, row_put, row_set_other}
 use Rattle.tables.proofs.Standing.{kept_open, drafts_end}
 
-module _ (t : OpenTable) (p : ℕ) (k : Taken) (low : p < t.used) (is : entry_at t p ≡ place.Open k) (e : DraftEntry) where
+module _ (t : OpenTable) (p : ℕ) (k : Taken) (low : p < t.used) (is : entry_at t p ≡ Some k) (e : DraftEntry) where
   abbrev old : Open
   old = at (list_of t) p
 
   -- a place whose row of drafts, with n entries, has become those of the draft set
   drafts_stand : (n : ℕ) (ds' : List DraftEntry) → map drafting (row most_drafts p n ds') ≡ with_draft old.drafts e.card.0 e.value →
-      stands t.cards (vec_items t.reads) ds' p (place.Open (record { number = k.number; reads = k.reads; drafts = n }))
+      stands t.cards (vec_items t.reads) ds' p (Some (record { number = k.number; reads = k.reads; drafts = n }))
       ≡ Some (draft_set old e.card.0 e.value)
   drafts_stand n ds' drafts =
       ap (λ l. Some (record { number = k.number.0; reads = map reading (row t.cards p k.reads (vec_items t.reads)); drafts = l })) drafts
@@ -35,9 +33,9 @@ module _ (t : OpenTable) (p : ℕ) (k : Taken) (low : p < t.used) (is : entry_at
 
   drafts_kept : (n : ℕ) (ds' : List DraftEntry) → n ≤ 32 → map drafting (row most_drafts p n ds') ≡ with_draft old.drafts e.card.0 e.value →
       apart t.cards (draft_cards (with_draft old.drafts e.card.0 e.value)) ≡ true →
-      kept_at t.cards (vec_items t.reads) ds' p (place.Open (record { number = k.number; reads = k.reads; drafts = n })) ≡ true
+      kept_at t.cards (vec_items t.reads) ds' p (Some (record { number = k.number; reads = k.reads; drafts = n })) ≡ true
   drafts_kept n ds' le drafts ok =
-      let q : OpenPlace = place.Open (record { number = k.number; reads = k.reads; drafts = n }) in
+      let q : Option Taken = Some (record { number = k.number; reads = k.reads; drafts = n }) in
       let sizes = and_from (leb k.reads t.cards) (leb n most_drafts) (le-leb k.reads t.cards (kept_open t p k low is).0) (le-leb n 32 le) in
       let whole = and_from (apart t.cards (read_cards old.reads)) (apart t.cards (draft_cards (with_draft old.drafts e.card.0 e.value)))
       (neat_old t p k low is).0 ok in
@@ -47,8 +45,8 @@ module _ (t : OpenTable) (p : ℕ) (k : Taken) (low : p < t.used) (is : entry_at
     abbrev more_drafts : List DraftEntry
     more_drafts = set (vec_items t.drafts) (p * 32 + k.drafts) e
 
-    abbrev pub added_place : OpenPlace
-    added_place = place.Open (record { number = k.number; reads = k.reads; drafts = k.drafts + 1 })
+    abbrev pub added_place : Option Taken
+    added_place = Some (record { number = k.number; reads = k.reads; drafts = k.drafts + 1 })
 
     pub added_others : Others most_drafts p (vec_items t.drafts) more_drafts
     added_others q n ne le = row_set_other most_drafts p q n k.drafts (vec_items t.drafts) e ne le room
@@ -89,10 +87,10 @@ module _ (t : OpenTable) (p : ℕ) (k : Taken) (low : p < t.used) (is : entry_at
         ∙ map-set drafting (row most_drafts p k.drafts ds) j e ∙ ap (λ l. set l j (drafting e)) (sym (old_drafts t p k low is))
         ∙ sym (with_draft_set t.cards old.drafts j e.card.0 e.value (neat_old t p k low is).1 h same)
 
-    pub replaced_stands : stands t.cards (vec_items t.reads) set_drafts p (place.Open k) ≡ Some (draft_set old e.card.0 e.value)
+    pub replaced_stands : stands t.cards (vec_items t.reads) set_drafts p (Some k) ≡ Some (draft_set old e.card.0 e.value)
     replaced_stands = drafts_stand k.drafts set_drafts replaced_row
 
-    pub replaced_kept : kept_at t.cards (vec_items t.reads) set_drafts p (place.Open k) ≡ true
+    pub replaced_kept : kept_at t.cards (vec_items t.reads) set_drafts p (Some k) ≡ true
     replaced_kept =
         let ds = old.drafts in
         let x = e.card.0 in

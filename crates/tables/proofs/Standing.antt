@@ -1,12 +1,10 @@
 -- What stands in the tables of open transactions. Assumes nothing.
-use Rattle.std.proofs.Common.{◌≡◌, ℕ, zero, suc, ◌+◌, ◌*◌, ◌<◌, ◌≤◌, true, false, leb, List, [], ◌∷◌, length, get_or, take, set, is_some, Some, None, vec_items, vec_len, Option, unwrap_or, sym, refl, ap, ◌∙◌, ⊎_elim, arith}
+use Rattle.std.proofs.Common.{◌≡◌, ℕ, zero, suc, ◌+◌, ◌*◌, ◌<◌, ◌≤◌, true, false, leb, List, [], ◌∷◌, length, get_or, take, set, is_some, Some, None, vec_items, vec_len, Option, MatchOption, unwrap_or, sym, refl, ap, ◌∙◌, ⊎_elim, arith}
 use Rattle.std.specs.List.{slice_get}
 use Rattle.std.proofs.lemmas.List.{length-take-le, get_or-take, get_or_read}
 use Rattle.std.proofs.lemmas.Bool.{and_parts, leb-true, cases_lt}
 use Rattle.std.proofs.lemmas.Option.{slice_get_past}
 use Rattle.transactions.specs.State.{Open, standing}
-use Rattle.entries.specs.declared.entries.OpenPlace.{OpenPlace}
-use Rattle.entries.specs.declared.entries.OpenPlace.TheVariants as place
 use Rattle.entries.specs.declared.entries.Taken.{Taken}
 use Rattle.tables.specs.declared.table.OpenTable.{OpenTable}
 use Rattle.tables.specs.Rows.{stands, few, neat, kept_at}
@@ -19,7 +17,7 @@ length_list t =
     length_each (stands t.cards (vec_items t.reads) (vec_items t.drafts)) 0 (take t.used (vec_items t.places))
     ∙ length-take-le t.used (vec_items t.places) (omega (arith, t.listed, t.places.ok.0))
 
-abbrev pub stands_in : OpenTable → ℕ → OpenPlace → Option Open
+abbrev pub stands_in : OpenTable → ℕ → Option Taken → Option Open
 stands_in t p e = stands t.cards (vec_items t.reads) (vec_items t.drafts) p e
 
 pub nth_list : (t : OpenTable) (p : ℕ) → p < t.used → slice_get (list_of t) p ≡ Some (stands_in t p (entry_at t p))
@@ -27,9 +25,9 @@ nth_list t p h =
     let ps = take t.used (vec_items t.places) in
     let n = length-take-le t.used (vec_items t.places) (omega (arith, t.listed, t.places.ok.0)) in
     let e : 0 + p ≡ p = omega arith in
-    nth_each (stands t.cards (vec_items t.reads) (vec_items t.drafts)) 0 p ps place.Free (omega (arith, n))
-    ∙ ap (λ j. Some (stands_in t j (get_or ps p place.Free))) e
-    ∙ ap (λ x. Some (stands_in t p x)) (get_or-take t.used (vec_items t.places) p place.Free h)
+    nth_each (stands t.cards (vec_items t.reads) (vec_items t.drafts)) 0 p ps None (omega (arith, n))
+    ∙ ap (λ j. Some (stands_in t j (get_or ps p None))) e
+    ∙ ap (λ x. Some (stands_in t p x)) (get_or-take t.used (vec_items t.places) p None h)
 
 -- the places in use have rows
 pub reads_end : (t : OpenTable) (p n : ℕ) → p < t.used → n ≤ t.cards → p * t.cards + n ≤ vec_len t.reads
@@ -38,12 +36,12 @@ reads_end t p n h few = omega (arith, t.read, rows_apart t.cards t.used p h)
 pub drafts_end : (t : OpenTable) (p n : ℕ) → p < t.used → n ≤ 32 → p * 32 + n ≤ vec_len t.drafts
 drafts_end t p n h few = omega (arith, t.drafted)
 
-pub at_open : (t : OpenTable) (p : ℕ) (k : Taken) → p < t.used → entry_at t p ≡ place.Open k →
-    slice_get (list_of t) p ≡ Some (stands_in t p (place.Open k))
+pub at_open : (t : OpenTable) (p : ℕ) (k : Taken) → p < t.used → entry_at t p ≡ Some k →
+    slice_get (list_of t) p ≡ Some (stands_in t p (Some k))
 at_open t p k h e = nth_list t p h ∙ ap (λ x. Some (stands_in t p x)) e
 
-pub at_is : (t : OpenTable) (p : ℕ) (k : Taken) → p < t.used → entry_at t p ≡ place.Open k →
-    Some (at (list_of t) p) ≡ stands_in t p (place.Open k)
+pub at_is : (t : OpenTable) (p : ℕ) (k : Taken) → p < t.used → entry_at t p ≡ Some k →
+    Some (at (list_of t) p) ≡ stands_in t p (Some k)
 at_is t p k h e = ap (λ o. Some (unwrap_or (standing o) nobody)) (at_open t p k h e)
 
 pub past_untaken : (t : OpenTable) (p : ℕ) → t.used ≤ p → taken (list_of t) p ≡ false
@@ -59,35 +57,35 @@ taken_low t p h =
     let z : ◌≡◌ {A = ℕ} 0 1 = cc in absurd (omega arith))
     (cases_lt p t.used)
 
-pub free_untaken : (t : OpenTable) (p : ℕ) → p < t.used → entry_at t p ≡ place.Free → taken (list_of t) p ≡ false
+pub free_untaken : (t : OpenTable) (p : ℕ) → p < t.used → entry_at t p ≡ None → taken (list_of t) p ≡ false
 free_untaken t p h e = ap (λ o. is_some (standing o)) (nth_list t p h ∙ ap (λ x. Some (stands_in t p x)) e)
 
-pub taken_open : (t : OpenTable) (p : ℕ) → taken (list_of t) p ≡ true → entry_at t p ≡ place.Free → ⊥
+pub taken_open : (t : OpenTable) (p : ℕ) → taken (list_of t) p ≡ true → entry_at t p ≡ None → ⊥
 taken_open t p h e =
     let none : taken (list_of t) p ≡ false = free_untaken t p (taken_low t p h) e in
     let z : ◌≡◌ {A = ℕ} 0 1 = cc in omega arith
 
-pub open_there : (t : OpenTable) (p : ℕ) → taken (list_of t) p ≡ true → (k : Taken) × (entry_at t p ≡ place.Open k)
+pub open_there : (t : OpenTable) (p : ℕ) → taken (list_of t) p ≡ true → (k : Taken) × (entry_at t p ≡ Some k)
 open_there t p h = go (entry_at t p) refl
   where
-    go : (e : OpenPlace) → entry_at t p ≡ e → (k : Taken) × (entry_at t p ≡ place.Open k)
-    go place.Free e = absurd (taken_open t p h e)
-    go (place.Open k) e = (k, e)
+    go : (e : Option Taken) → entry_at t p ≡ e → (k : Taken) × (entry_at t p ≡ Some k)
+    go None e = absurd (taken_open t p h e)
+    go (Some k) e = (k, e)
 
-pub kept_open : (t : OpenTable) (p : ℕ) (k : Taken) → p < t.used → entry_at t p ≡ place.Open k →
-    (k.reads ≤ t.cards) × (k.drafts ≤ 32) × (neat t.cards (stands_in t p (place.Open k)) ≡ true)
+pub kept_open : (t : OpenTable) (p : ℕ) (k : Taken) → p < t.used → entry_at t p ≡ Some k →
+    (k.reads ≤ t.cards) × (k.drafts ≤ 32) × (neat t.cards (stands_in t p (Some k)) ≡ true)
 kept_open t p k h e =
     let whole = ap (kept_at t.cards (vec_items t.reads) (vec_items t.drafts) p) (sym e) ∙ t.kept p h in
-    let parts = and_parts (few t.cards (place.Open k)) (neat t.cards (stands_in t p (place.Open k))) whole in
+    let parts = and_parts (few t.cards (Some k)) (neat t.cards (stands_in t p (Some k))) whole in
     let sizes = and_parts (leb k.reads t.cards) (leb k.drafts 32) parts.0 in
     (leb-true k.reads t.cards sizes.0, leb-true k.drafts 32 sizes.1, parts.1)
 
 -- an entry that was read
-pub entry_read : (t : OpenTable) (p : ℕ) → p < t.used → (x : OpenPlace) → x ≡ get_or (vec_items t.places) p x → entry_at t p ≡ x
-entry_read t p h x e = sym (get_or_read (vec_items t.places) p x (omega (arith, t.listed, t.places.ok.0)) e place.Free)
+pub entry_read : (t : OpenTable) (p : ℕ) → p < t.used → (x : Option Taken) → x ≡ get_or (vec_items t.places) p x → entry_at t p ≡ x
+entry_read t p h x e = sym (get_or_read (vec_items t.places) p x (omega (arith, t.listed, t.places.ok.0)) e None)
 
 -- a place in use is taken exactly where its entry is
-pub open_taken : (t : OpenTable) (p : ℕ) (k : Taken) → p < t.used → entry_at t p ≡ place.Open k → taken (list_of t) p ≡ true
+pub open_taken : (t : OpenTable) (p : ℕ) (k : Taken) → p < t.used → entry_at t p ≡ Some k → taken (list_of t) p ≡ true
 open_taken t p k h e = ap (λ o. is_some (standing o)) (at_open t p k h e)
 
 -- where no transaction is, nothing was read or drafted
@@ -103,3 +101,13 @@ pub set_past : {X : Type 0} (xs : List X) (i : ℕ) (x : X) → length xs ≤ i 
 set_past [] i x h = refl
 set_past (y ∷ xs) zero x h = absurd (omega arith)
 set_past (y ∷ xs) (suc i) x h = ap (λ l. y ∷ l) (set_past xs i x (omega arith))
+
+-- what is known of a place in use by its entry
+pub taken_told : (t : OpenTable) (p : ℕ) (o : Option Taken) → p < t.used → entry_at t p ≡ o →
+    MatchOption o (taken (list_of t) p ≡ false) (λ k. (taken (list_of t) p ≡ true) × (entry_at t p ≡ Some k))
+taken_told t p None h e = free_untaken t p h e
+taken_told t p (Some k) h e = (open_taken t p k h e, e)
+
+-- the places in use, as they are read
+pub in_use_many : (t : OpenTable) → length (take t.used (vec_items t.places)) ≡ t.used
+in_use_many t = length-take-le t.used (vec_items t.places) (omega (arith, t.listed, t.places.ok.0))

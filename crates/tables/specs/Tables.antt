@@ -9,14 +9,13 @@
 --     enough t cards      there is a place, and for each place used one read entry for each card and 32 drafts
 --     laid_out t cards    t after set-up
 --     read_more, draft_set            a transaction with one reading more, and with a draft set
+use Rattle.entries.specs.declared.entries.Taken.{Taken}
 use Rattle.std.specs.Prelude.{ℕ, ◌*◌, min, Bool, ◌&&◌, List, [], ◌∷◌, ◌++◌, take, replicate, is_some, None, vec_items, vec_len, Option, nat_le, nat_lt, slice_index_or, slice_set}
 use Rattle.std.specs.List.{slice_get}
 use Rattle.std.specs.Option.{unwrap_or}
 use Rattle.stamps.specs.declared.value.Value.{Value}
 use Rattle.isolation.specs.Account.{with_draft}
 use Rattle.transactions.specs.State.{Open, standing, most_open, most_drafts}
-use Rattle.entries.specs.declared.entries.OpenPlace.{OpenPlace}
-use Rattle.entries.specs.declared.entries.OpenPlace.TheVariants as place
 use Rattle.tables.specs.declared.table.OpenTable.{OpenTable}
 use Rattle.tables.specs.Rows.{each, stands}
 
@@ -40,8 +39,8 @@ table_of t =
       list = list_of t;
     }
 
-abbrev pub entry_at : OpenTable → ℕ → OpenPlace
-entry_at t p = slice_index_or (vec_items t.places) p place.Free
+abbrev pub entry_at : OpenTable → ℕ → Option Taken
+entry_at t p = slice_index_or (vec_items t.places) p None
 
 abbrev pub nobody : Open
 nobody = record { number = 0; reads = []; drafts = [] }

@@ -44,7 +44,7 @@ impl BooksMemory {
             value: Value::BLANK,
         };
         Ok(BooksMemory {
-            places: vec![in heap; OpenPlace::Free; places]?,
+            places: vec![in heap; None; places]?,
             reads: vec![in heap; read; used * cards as usize]?,
             drafts: vec![in heap; draft; used * DRAFTS]?,
             lines: vec![in heap; line; lines]?,

@@ -1,6 +1,5 @@
 // The tables of open transactions.
-ghost use Rattle.std.specs.Prelude.{◌≡◌, ℕ, ◌*◌, ◌<◌, ◌≤◌, true, vec_len, slice_index_or};
-ghost use Rattle.entries.specs.declared.entries.OpenPlace.TheVariants.{Free};
+ghost use Rattle.std.specs.Prelude.{◌≡◌, ℕ, ◌*◌, ◌<◌, ◌≤◌, true, None, vec_len, slice_index_or};
 ghost use Rattle.tables.specs.Rows.{kept_at};
 
 use entries::{DraftEntry, OpenPlace, ReadEntry};
@@ -27,5 +26,5 @@ pub struct OpenTable {
     ghost listed: { used ≤ vec_len places },
     ghost read: { used * cards ≤ vec_len reads },
     ghost drafted: { used * 32 ≤ vec_len drafts },
-    ghost kept: { (p : ℕ) → p < used → kept_at cards reads.items drafts.items p (slice_index_or places.items p Free) ≡ true },
+    ghost kept: { (p : ℕ) → p < used → kept_at cards reads.items drafts.items p (slice_index_or places.items p None) ≡ true },
 }

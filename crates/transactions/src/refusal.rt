@@ -5,33 +5,33 @@ ghost use Rattle.transactions.specs.Refusals.{refusal_number};
 #[derive(Clone, Copy, PartialEq, Eq, Debug)]
 pub enum Refusal {
     // The shelf has no cards.
-    NoCards,
+    NoCards = 2,
     // The shelf's stamps are narrower than its cards are many.
-    Narrow,
+    Narrow = 3,
     // A card has a version above 0.
-    NotFresh,
+    NotFresh = 4,
     // A book is too short.
-    ShortBooks,
+    ShortBooks = 5,
     // The slip's number is not open in these books.
-    NotOpen,
+    NotOpen = 6,
     // There was no such card at set-up.
-    NoCard,
+    NoCard = 7,
     // All open places are taken.
-    AllOpen,
+    AllOpen = 8,
     // The last number has been given.
-    NumbersOut,
+    NumbersOut = 9,
     // The card to draft was not read.
-    Unread,
+    Unread = 10,
     // The transaction has drafted as many cards as it may.
-    DraftsOut,
+    DraftsOut = 11,
     // A drafted card has a newer version than the one read.
-    Conflict,
+    Conflict = 12,
     // The drafts in one drawer outnumber its free places.
-    NoPlace,
+    NoPlace = 13,
     // The journal lacks lines for the block.
-    JournalFull,
+    JournalFull = 14,
     // The shelf is not the one that was set up with these books.
-    OtherShelf,
+    OtherShelf = 15,
 }
 
 impl Refusal {
@@ -39,21 +39,6 @@ impl Refusal {
     pub fn number(self) -> u32
         ensures { result ≡ refusal_number self }
     {
-        match self {
-            Refusal::NoCards => 2,
-            Refusal::Narrow => 3,
-            Refusal::NotFresh => 4,
-            Refusal::ShortBooks => 5,
-            Refusal::NotOpen => 6,
-            Refusal::NoCard => 7,
-            Refusal::AllOpen => 8,
-            Refusal::NumbersOut => 9,
-            Refusal::Unread => 10,
-            Refusal::DraftsOut => 11,
-            Refusal::Conflict => 12,
-            Refusal::NoPlace => 13,
-            Refusal::JournalFull => 14,
-            Refusal::OtherShelf => 15,
-        }
+        self as u32
     }
 }

@@ -1,11 +1,11 @@
 // The editors' calls.
-ghost use Rattle.std.specs.Prelude.{◌≡◌, Some, Ok, Err, vec_len, nat_eq};
+ghost use Rattle.std.specs.Prelude.{◌≡◌, Some, Ok, Err, nat_eq};
 ghost use Rattle.std.specs.Option.{ok_or};
 ghost use Rattle.transactions.specs.Calls.{open_answer, Opens, draft_by, draft_answer, after_draft, abandon_answer, after_end, after_close};
 ghost use Rattle.transactions.specs.declared.refusal.Refusal.TheVariants as refusals;
 ghost use Rattle.transactions.specs.State.{last_at, numbered};
 ghost use Rattle.tables.specs.Tables.{at};
-ghost use Rattle.books.specs.States.{state_of, new_state, number_given};
+ghost use Rattle.books.specs.States.{state_of, sizes_of, new_state, number_given};
 
 use crate::books::Books;
 use crate::slip::Slip;
@@ -22,7 +22,7 @@ const NUMBERS: u32 = 1_000_000;
 impl Books {
     // Books that are not set up yet: no place is in use.
     pub fn new(memory: BooksMemory) -> Books
-        ensures { state_of result ≡ new_state (record { places = vec_len memory.places; reads = vec_len memory.reads; drafts = vec_len memory.drafts; lines = vec_len memory.lines }) }
+        ensures { state_of result ≡ new_state (sizes_of memory) }
     {
         let BooksMemory {
             places,
@@ -51,13 +51,9 @@ impl Books {
         ensures books { state_of self.new ≡ after_end (state_of self.old) slip.number.0 }
     {
         let Slip { number } = slip;
-        match self.table.find(number) {
-            Some(place) => {
-                self.table.release(place);
-                Ok(())
-            }
-            None => Err(Refusal::NotOpen),
-        }
+        let place = self.place_of(number)?;
+        self.table.release(place);
+        Ok(())
     }
 
     // The place of an open transaction.
@@ -72,9 +68,7 @@ impl Books {
         ensures answer { number_given result ≡ open_answer (state_of self.old) }
         ensures books { Opens (state_of self.old) (open_answer (state_of self.old)) (state_of self.new) }
     {
-        let Some(place) = self.table.free_place() else {
-            return Err(Refusal::AllOpen);
-        };
+        let place = self.table.free_place().ok_or(Refusal::AllOpen)?;
         if self.given == NUMBERS {
             return Err(Refusal::NumbersOut);
         }

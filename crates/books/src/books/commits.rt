@@ -71,9 +71,8 @@ impl Books {
     fn refuse(&mut self, place: usize, refusal: Refusal)
         ensures { state_of self.new ≡ (if ends_by refusal then with_places (state_of self.old) (slice_set (state_of self.old).places place None) else state_of self.old) }
     {
-        match refusal {
-            Refusal::Conflict => self.table.release(place),
-            _ => {}
+        if matches!(refusal, Refusal::Conflict) {
+            self.table.release(place);
         }
     }
 
@@ -84,16 +83,12 @@ impl Books {
         ensures books { state_of self.new ≡ commit_books (state_of self.old) (S.meaning shelf.old) number.0 }
     {
         let place = self.place_of(number)?;
-        match self.decide(shelf, place) {
-            Ok(()) => {
-                self.carry_out(shelf, place, number);
-                Ok(())
-            }
-            Err(refusal) => {
-                self.refuse(place, refusal);
-                Err(refusal)
-            }
+        if let Err(refusal) = self.decide(shelf, place) {
+            self.refuse(place, refusal);
+            return Err(refusal);
         }
+        self.carry_out(shelf, place, number);
+        Ok(())
     }
 
     // Commits a transaction, or hands its slip back; at a conflict the transaction ends and the slip is spent.

@@ -20,10 +20,9 @@ impl Books {
     pub(super) fn is_other<S: Shelf>(&self, shelf: &S, place: usize) -> bool
         ensures { result ≡ other_shelf (state_of self.now) (S.meaning shelf.now) (at (state_of self.now).places place).reads }
     {
-        if shelf.cards() as usize != self.table.cards() || shelf.width() != self.width {
-            return true;
-        }
-        lacks_any(shelf, self.table.reads_at(place))
+        shelf.cards() as usize != self.table.cards()
+            || shelf.width() != self.width
+            || lacks_any(shelf, self.table.reads_at(place))
     }
 
     // Whether the transaction in a place may read a card.
@@ -52,9 +51,9 @@ impl Books {
         ensures answer { result ≡ read_first (S.meaning shelf.now) (at (state_of self.old).places place) card.0 }
         ensures books { state_of self.new ≡ read_place (state_of self.old) place card.0 (read_first (S.meaning shelf.now) (at (state_of self.old).places place) card.0) }
     {
-        let Some(version) = newest_that_fits(shelf, self.table.reads_at(place), card) else {
-            return Err(Refusal::OtherShelf);
-        };
+        let version = newest_that_fits(shelf, self.table.reads_at(place), card).ok_or(
+            Refusal::OtherShelf,
+        )?;
         let reading = seen(shelf, &self.table, place, card, version);
         self.table.enter_read(place, ReadEntry { card, version });
         Ok(reading)

@@ -33,9 +33,7 @@ impl Books {
         ensures books { state_of self.new ≡ after_set_up (state_of self.old) (S.meaning shelf.now) }
     {
         check_shelf(shelf)?;
-        if !self.table.lay_out(shelf.cards()) {
-            return Err(Refusal::ShortBooks);
-        }
+        self.table.lay_out(shelf.cards())?;
         self.width = shelf.width();
         self.given = 0;
         self.journal.clear();

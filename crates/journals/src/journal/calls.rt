@@ -10,17 +10,19 @@ use stamps::TxNo;
 
 impl Journal {
     // A journal with room for so many lines.
-    pub fn new(lines: Vec<Line>) -> Journal
+    pub fn new(mut lines: Vec<Line>) -> Journal
         ensures { log_of result ≡ record { size = vec_len lines; lines = [] } }
     {
-        Journal { lines, count: 0 }
+        let size = lines.len();
+        lines.clear();
+        Journal { lines, size }
     }
 
     // The lines written.
     pub fn written(&self) -> &[Line]
         ensures { result.now ≡ (log_of self.now).lines }
     {
-        &self.lines[0..self.count]
+        &self.lines
     }
 
     // The place of the last line of a transaction.
@@ -34,7 +36,7 @@ impl Journal {
     pub fn room(&self) -> usize
         ensures { result ≡ log_room (log_of self.now) }
     {
-        self.lines.len() - self.count
+        self.size - self.lines.len()
     }
 
     // Writes one line more.
@@ -42,14 +44,13 @@ impl Journal {
         requires { 0 < log_room (log_of self.old) }
         ensures { log_of self.new ≡ with_line (log_of self.old) line }
     {
-        self.lines[self.count] = line;
-        self.count += 1;
+        self.lines.push_reserved(line);
     }
 
     // Forgets every line.
     pub fn clear(&mut self)
         ensures { log_of self.new ≡ record { size = (log_of self.old).size; lines = [] } }
     {
-        self.count = 0;
+        self.lines.clear();
     }
 }

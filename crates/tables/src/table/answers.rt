@@ -3,7 +3,6 @@ ghost use Rattle.std.specs.Prelude.{◌≡◌, ◌+◌, ◌*◌, ◌<◌, ◌≤
 ghost use Rattle.std.specs.List.{slice_get};
 ghost use Rattle.std.specs.Option.{option_map, unwrap_or};
 ghost use Rattle.transactions.specs.State.{last_at, numbered};
-ghost use Rattle.entries.specs.declared.entries.OpenPlace.TheVariants.{Open};
 ghost use Rattle.stamps.specs.declared.value.Value.{Value};
 ghost use Rattle.isolation.specs.Account.{draft_of};
 ghost use Rattle.transactions.specs.Calls.{all_taken};
@@ -13,7 +12,7 @@ ghost use Rattle.tables.specs.Rows.{row};
 ghost use Rattle.tables.specs.Tables.{table_of, enough, list_of, entry_at, at, taken as takes};
 
 use crate::table::{DRAFTS, OpenTable, PLACES};
-use entries::{DraftEntry, OpenPlace, ReadEntry, Taken, last_with};
+use entries::{DraftEntry, OpenPlace, ReadEntry, Taken, last_entry, last_with};
 use stamps::{CardNo, TxNo, Value, VersionNo};
 
 impl OpenTable {
@@ -65,67 +64,48 @@ impl OpenTable {
     pub fn free_place(&self) -> Option<usize>
         ensures { MatchOption result (all_taken (list_of self.now) ≡ true) (λ i. slice_get (list_of self.now) i ≡ Some None) }
     {
-        for i in (0..self.used).rev() {
-            if let OpenPlace::Free = self.places[i] {
-                return Some(i);
-            }
-        }
-        None
+        self.in_use().iter().rposition(|place| place.is_none())
     }
 
     // The open transaction in a place, and how many cards it has read and drafted.
     pub(super) fn taken(&self, place: usize) -> Option<Taken>
-        ensures { MatchOption result (takes (list_of self.now) place ≡ false) (λ k. (takes (list_of self.now) place ≡ true) × (entry_at self.now place ≡ Open k)) }
+        ensures { MatchOption result (takes (list_of self.now) place ≡ false) (λ k. (takes (list_of self.now) place ≡ true) × (entry_at self.now place ≡ Some k)) }
     {
-        if place >= self.used {
-            return None;
-        }
-        match self.places[place] {
-            OpenPlace::Open(taken) => Some(taken),
-            OpenPlace::Free => None,
-        }
+        *self.in_use().get(place)?
     }
 
     // The cards that the transaction in a place has read, none where there is no transaction.
     pub fn reads_at(&self, place: usize) -> &[ReadEntry]
         ensures { map reading result.now ≡ (at (list_of self.now) place).reads }
     {
-        match self.taken(place) {
-            Some(taken) => row_of(&self.reads, self.cards, place, taken.reads),
-            None => &self.reads[0..0],
-        }
+        let Some(taken) = self.taken(place) else {
+            return &[];
+        };
+        row_of(&self.reads, self.cards, place, taken.reads)
     }
 
     // Its drafts.
     pub fn drafts_at(&self, place: usize) -> &[DraftEntry]
         ensures { map drafting result.now ≡ (at (list_of self.now) place).drafts }
     {
-        match self.taken(place) {
-            Some(taken) => row_of(&self.drafts, DRAFTS, place, taken.drafts),
-            None => &self.drafts[0..0],
-        }
+        let Some(taken) = self.taken(place) else {
+            return &[];
+        };
+        row_of(&self.drafts, DRAFTS, place, taken.drafts)
     }
 
     // The version in which it has read a card.
     pub fn version_read(&self, place: usize, card: CardNo) -> Option<VersionNo>
         ensures { option_map (λ v. v.0) result ≡ version_read (at (list_of self.now) place).reads card.0 }
     {
-        let reads = self.reads_at(place);
-        match last_with(reads, card.0) {
-            Some(nth) => Some(reads[nth].version),
-            None => None,
-        }
+        last_entry(self.reads_at(place), card.0).map(|entry| entry.version)
     }
 
     // What it has drafted for a card.
     pub fn draft_of(&self, place: usize, card: CardNo) -> Option<Value>
         ensures { (v : Value) → unwrap_or result v ≡ draft_of (at (list_of self.now) place).drafts card.0 v }
     {
-        let drafts = self.drafts_at(place);
-        match last_with(drafts, card.0) {
-            Some(nth) => Some(drafts[nth].value),
-            None => None,
-        }
+        last_entry(self.drafts_at(place), card.0).map(|entry| entry.value)
     }
 }
 

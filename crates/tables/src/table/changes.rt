@@ -1,12 +1,14 @@
 // How the tables change.
-ghost use Rattle.std.specs.Prelude.{◌≡◌, suc, ◌*◌, ◌<◌, ◌≤◌, true, false, ◌||◌, [], ◌∷◌, ◌++◌, length, replicate, if◌then◌else◌, Some, None, vec_len, nat_lt, slice_index};
+ghost use Rattle.std.specs.Prelude.{◌≡◌, suc, ◌*◌, ◌<◌, ◌≤◌, true, false, ◌||◌, [], ◌∷◌, ◌++◌, length, replicate, if◌then◌else◌, Some, None, Ok, Err, vec_len, nat_lt, slice_index};
 ghost use Rattle.isolation.specs.Account.{has_read, drafted};
+ghost use Rattle.transactions.specs.declared.refusal.Refusal.TheVariants as refusals;
 ghost use Rattle.entries.specs.Contents.{draft_cards};
 ghost use Rattle.tables.specs.Tables.{list_of, table_of, at, taken as takes, with_list, with_place, read_more, draft_set, enough, laid_out};
 
 use crate::table::{DRAFTS, OpenTable, PLACES};
-use entries::{DraftEntry, OpenPlace, ReadEntry, Taken, last_with};
+use entries::{DraftEntry, ReadEntry, Taken, last_with};
 use stamps::TxNo;
+use transactions::Refusal;
 
 impl OpenTable {
     // Puts a new transaction into a place.
@@ -14,7 +16,7 @@ impl OpenTable {
         ensures { table_of self.new ≡ with_place (table_of self.old) place (Some (record { number = number.0; reads = []; drafts = [] })) }
     {
         if place < self.used {
-            self.places[place] = OpenPlace::Open(Taken {
+            self.places[place] = Some(Taken {
                 number,
                 reads: 0,
                 drafts: 0,
@@ -27,7 +29,7 @@ impl OpenTable {
         ensures { table_of self.new ≡ with_place (table_of self.old) place None }
     {
         if place < self.used {
-            self.places[place] = OpenPlace::Free;
+            self.places[place] = None;
         }
     }
 
@@ -42,10 +44,9 @@ impl OpenTable {
             return;
         };
         self.reads[place * self.cards + taken.reads] = entry;
-        self.places[place] = OpenPlace::Open(Taken {
-            number: taken.number,
+        self.places[place] = Some(Taken {
             reads: taken.reads + 1,
-            drafts: taken.drafts,
+            ..taken
         });
     }
 
@@ -84,10 +85,9 @@ impl OpenTable {
             return;
         };
         self.drafts[place * DRAFTS + taken.drafts] = draft;
-        self.places[place] = OpenPlace::Open(Taken {
-            number: taken.number,
-            reads: taken.reads,
+        self.places[place] = Some(Taken {
             drafts: taken.drafts + 1,
+            ..taken
         });
     }
 
@@ -95,6 +95,7 @@ impl OpenTable {
     pub fn clear(&mut self)
         ensures { table_of self.new ≡ with_list (table_of self.old) (replicate (length (list_of self.old)) None) }
     {
+        // place by place, since no proof knows the list after a `fill` of its part
         for place in 0..self.used {
             self.release(place);
         }
@@ -108,24 +109,23 @@ impl OpenTable {
         ensures table { table_of self.new ≡ with_list (table_of self.old) (list_of self.old ++ (None ∷ [])) }
         ensures used { self.new.used ≡ suc self.old.used }
     {
-        self.places[self.used] = OpenPlace::Free;
+        self.places[self.used] = None;
         self.used += 1;
     }
 
-    // Lays the tables out for this many cards, with every place free; answers whether they are long enough, and leaves them as they are if not.
-    pub fn lay_out(&mut self, cards: u32) -> bool
-        ensures answer { result ≡ enough (table_of self.old) cards }
+    // Lays the tables out for this many cards, with every place free; tables that are too short stay as they are.
+    pub fn lay_out(&mut self, cards: u32) -> Result<(), Refusal>
+        ensures answer { result ≡ (if enough (table_of self.old) cards then Ok tt else Err refusals.ShortBooks) }
         ensures table { table_of self.new ≡ (if enough (table_of self.old) cards then laid_out (table_of self.old) cards else table_of self.old) }
     {
         if !self.suffices(cards) {
-            return false;
+            return Err(Refusal::ShortBooks);
         }
         self.used = 0;
         self.cards = cards as usize;
-        let places = self.places.len().min(PLACES);
-        while self.used < places {
+        for _place in 0..self.places.len().min(PLACES) {
             self.add_place();
         }
-        true
+        Ok(())
     }
 }

@@ -1,14 +1,14 @@
-use Rattle.std.proofs.Common.{arith}
-use Rattle.snapshots.proofs.ShelfReads.{any_written_more, any_written_at}
+use Rattle.std.proofs.Common.{ltb, ap, refl, ◌∙◌, arith, rules}
+use Rattle.std.proofs.lemmas.Iterator.{YieldsList-from_range}
+use Rattle.std.proofs.lemmas.Iterator.Search.{any_from_yields_List}
+use Rattle.shelf.specs.Meaning.{newest}
+use Rattle.transactions.specs.Calls.{any_written}
+use Rattle.snapshots.proofs.ShelfReads.{any_written_is}
 use Rattle.snapshots.proofs.shelf_reads.any_written.Goals as goal
 
-pub returns-then-newest_of-gt0 : goal.returns-then-newest_of-gt0
-returns-then-newest_of-gt0 g c =
+pub returns : goal.returns
+returns g c =
     let m = g.S.Shelf.meaning c.args.shelf.now in
-    any_written_at m c.loop-card.card m.cards c.newest_of.result.0 (omega (arith, c.loop-card-test.true, c.cards-card-end.ensures))
-    c.newest_of.ensures c.if-newest_of-gt0.true
-
-pub loop-card-preserved : goal.loop-card-preserved
-loop-card-preserved g c =
-    any_written_more (g.S.Shelf.meaning c.args.shelf.now) c.loop-card.card c.newest_of.result.0 c.loop-card.invariant c.newest_of.ensures
-    c.if-newest_of-gt0.false
+    any_from_yields_List (λ x. ltb 0 (newest m x)) _ _ _ c.any.ensures.ran (YieldsList-from_range 0 c.cards.result c.cards.result refl (omega arith))
+    (λ x b q k. search rules)
+    ∙ any_written_is m c.cards.result ∙ ap (any_written m) c.cards.ensures

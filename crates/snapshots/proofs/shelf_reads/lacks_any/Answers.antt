@@ -1,20 +1,13 @@
-use Rattle.entries.specs.declared.entries.ReadEntry.{ReadEntry}
-use Rattle.snapshots.proofs.ShelfReads.{lacks_passed, lacks_found, lacks_end}
+use Rattle.std.proofs.Common.{not, is_some, ◌∙◌, rules}
+use Rattle.std.proofs.lemmas.Iterator.{YieldsList-from_slice}
+use Rattle.std.proofs.lemmas.Iterator.Search.{any_from_yields_List}
+use Rattle.shelf.specs.Questions.{writer_of}
+use Rattle.snapshots.proofs.ShelfReads.{lacks_is}
 use Rattle.snapshots.proofs.shelf_reads.lacks_any.Goals as goal
-
-abbrev none : ReadEntry
-none = record { card = record { 0 = 0 }; version = record { 0 = 0 } }
-
-pub returns-then-is_none : goal.returns-then-is_none
-returns-then-is_none g c =
-    lacks_found (g.S.Shelf.meaning c.args.shelf.now) c.args.reads.now c.loop-entry.entry-index none c.loop-entry-test.true
-    c.writer.result c.is_none.result c.writer.ensures c.is_none.ensures c.if-is_none.true c.loop-entry.invariant
-
-pub loop-entry-preserved : goal.loop-entry-preserved
-loop-entry-preserved g c =
-    lacks_passed (g.S.Shelf.meaning c.args.shelf.now) c.args.reads.now c.loop-entry.entry-index none c.loop-entry-test.true
-    c.writer.result c.is_none.result c.writer.ensures c.is_none.ensures c.if-is_none.false c.loop-entry.invariant
 
 pub returns : goal.returns
 returns g c =
-    lacks_end (g.S.Shelf.meaning c.args.shelf.now) c.args.reads.now c.loop-entry.entry-index c.loop-entry-test.false c.loop-entry.invariant
+    let m = g.S.Shelf.meaning c.args.shelf.now in
+    let es = c.args.reads.now in
+    any_from_yields_List (λ e. not (is_some (writer_of m e.card.0 e.version.0))) _ _ _ c.any.ensures.ran (YieldsList-from_slice es (cc)) (λ x b q k. search rules)
+    ∙ lacks_is m es

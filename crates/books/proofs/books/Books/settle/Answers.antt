@@ -14,16 +14,16 @@ carry_out-requires g c =
     let i = c.in_ok-place.place in
     let found = found_there (last_at (numbered n) b.places) i (sym c.place_of.ensures ∙ c.in_ok-place.was) in
     let held = holds_from b.places n i found in
-    record { taken = held.open_there; number = held.number; granted = sym c.decide.ensures ∙ c.in-Ok.is }
+    record { taken = held.open_there; number = held.number; granted = sym c.decide.ensures ∙ c.in_default.is }
 
-pub returns-in-Ok : goal.returns-in-Ok
-returns-in-Ok g c =
+pub returns : goal.returns
+returns g c =
     let b = state_of c.args.self.now in
     let m = g.S.Shelf.meaning c.args.shelf.now in
     let n = c.args.number.0 in
     let i = c.in_ok-place.place in
     let found = found_there (last_at (numbered n) b.places) i (sym c.place_of.ensures ∙ c.in_ok-place.was) in
-    let ok = sym c.decide.ensures ∙ c.in-Ok.is in
+    let ok = sym c.decide.ensures ∙ c.in_default.is in
     record {
       answer = sym (commit_is b m n i found ∙ ok);
       shelf = c.carry_out.ensures.shelf ∙ committed_shelf b m n i found ok;

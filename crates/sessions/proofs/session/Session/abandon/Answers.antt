@@ -3,7 +3,7 @@ use Rattle.catalogue.specs.Kept.{kept}
 use Rattle.sessions.proofs.Replies.{no_abandon}
 use Rattle.sessions.proofs.session.Session.abandon.Goals as goal
 
-pub returns-in-None : goal.returns-in-None
-returns-in-None g c =
+pub returns-in_default : goal.returns-in_default
+returns-in_default g c =
     no_abandon (g.S.Shelf.meaning c.args.shelf.now) (kept c.args.self.now.catalogue) (vec_items c.args.self.now.slips) (vec_items c.take_slip.new.slips)
-    c.args.number c.in-None.ensures.taken c.take_slip.ensures.rest
+    c.args.number c.in_default.ensures.taken c.take_slip.ensures.rest

@@ -1,6 +1,5 @@
-use Rattle.std.proofs.Common.{take, vec_items, ap, ◌∙◌, arith}
+use Rattle.std.proofs.Common.{None, take, vec_items, ap, ◌∙◌, arith}
 use Rattle.std.proofs.lemmas.List.{take_more_set}
-use Rattle.entries.specs.declared.entries.OpenPlace.TheVariants.{Free}
 use Rattle.tables.specs.Rows.{each, stands}
 use Rattle.tables.specs.Tables.{table_of, with_list}
 use Rattle.tables.proofs.Each.{each_push}
@@ -14,7 +13,7 @@ returns c =
     record {
       table =
           ap (with_list (table_of t))
-          (ap (each f 0) (take_more_set ps t.used Free (omega (arith, c.requires.listed, t.places.ok.0)))
-          ∙ each_push f 0 (take t.used ps) Free);
+          (ap (each f 0) (take_more_set ps t.used None (omega (arith, c.requires.listed, t.places.ok.0)))
+          ∙ each_push f 0 (take t.used ps) None);
       used = omega arith;
     }

@@ -14,8 +14,8 @@ row_of-requires c =
     let k = c.in-Some.taken in
     omega (arith, drafts_end t p k.drafts low (kept_open t p k low there.1).1, c.deref.ensures.len)
 
-pub returns-in-Some : goal.returns-in-Some
-returns-in-Some c =
+pub returns : goal.returns
+returns c =
     let t = c.args.self.now in
     let p = c.args.place in
     let there = c.in-Some.ensures in

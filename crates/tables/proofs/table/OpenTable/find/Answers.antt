@@ -1,7 +1,7 @@
-use Rattle.std.proofs.Common.{take, vec_items, sym, ap, ◌∙◌}
+use Rattle.std.proofs.Common.{Some, take, vec_items, sym, ap, ◌∙◌}
 use Rattle.transactions.specs.State.{last_at}
 use Rattle.entries.specs.Numbers.{sought}
-use Rattle.entries.specs.Contents.{number_of}
+use Rattle.std.specs.Option.{option_and_then}
 use Rattle.tables.proofs.Places.{found_place}
 use Rattle.tables.proofs.table.OpenTable.find.Goals as goal
 
@@ -9,5 +9,5 @@ pub returns : goal.returns
 returns c =
     let t = c.args.self.now in
     let n = c.args.number.0 in
-    c.last_with.ensures ∙ ap (last_at (λ e. sought n (number_of e))) c.in_use.ensures
+    c.last_with.ensures ∙ ap (last_at (λ e. sought n (option_and_then (λ t. Some t.number.0) e))) c.in_use.ensures
     ∙ sym (found_place n t.cards (vec_items t.reads) (vec_items t.drafts) (take t.used (vec_items t.places)))

@@ -1,6 +1,5 @@
-use Rattle.std.proofs.Common.{set, vec_items, sym, ap, ◌∙◌, arith}
+use Rattle.std.proofs.Common.{Some, set, vec_items, sym, ap, ◌∙◌, arith}
 use Rattle.transactions.specs.State.{most_drafts}
-use Rattle.entries.specs.declared.entries.OpenPlace.TheVariants as place
 use Rattle.tables.specs.Tables.{list_of, table_of, with_list}
 use Rattle.tables.proofs.Changes.{stands_new, same_rows, list_changed}
 use Rattle.tables.proofs.Standing.{length_list, set_past}
@@ -11,7 +10,7 @@ returns-then-place-self c =
     let t = c.args.self.now in
     let p = c.args.place in
     ap (with_list (table_of t))
-    (list_changed t p c.if-place-self.true (place.Open (record { number = c.args.number; reads = 0; drafts = 0 })) (vec_items t.reads) (vec_items t.drafts)
+    (list_changed t p c.if-place-self.true (Some (record { number = c.args.number; reads = 0; drafts = 0 })) (vec_items t.reads) (vec_items t.drafts)
     (same_rows t.cards p (vec_items t.reads)) (same_rows most_drafts p (vec_items t.drafts))
     ∙ ap (set (list_of t) p) (stands_new t.cards (vec_items t.reads) (vec_items t.drafts) p c.args.number))
 

@@ -1,8 +1,7 @@
-use Rattle.std.proofs.Common.{◌+◌, ◌*◌, get_or, take, set, vec_items, sym, ap, ◌∙◌, arith}
+use Rattle.std.proofs.Common.{None, Some, ◌+◌, ◌*◌, get_or, take, set, vec_items, sym, ap, ◌∙◌, arith}
 use Rattle.tables.specs.Tables.{list_of, table_of, with_list}
 use Rattle.tables.proofs.Changes.{same_rows, list_changed, kept_changed}
 use Rattle.std.proofs.lemmas.List.{set-get_or}
-use Rattle.entries.specs.declared.entries.OpenPlace.TheVariants as place
 use Rattle.tables.specs.Rows.{each, stands, kept_at}
 use Rattle.tables.proofs.EnteringDrafts.{replaced_low, replaced_others, replaced_stands, replaced_kept}
 use Rattle.tables.proofs.Standing.{taken_low, open_there, drafts_end}
@@ -47,15 +46,15 @@ invariant_of-self c =
     let below = replaced_low t p k low is c.args.draft c.args.nth c.requires.there c.requires.same in
     let e = c.args.draft in
     let ds = set (vec_items t.drafts) (p * 32 + c.args.nth) e in
-    let unset = ap (set (vec_items t.places) p) (sym is) ∙ set-get_or (vec_items t.places) p place.Free in
-    let changed = kept_changed t p low (place.Open k) (vec_items t.reads) ds
+    let unset = ap (set (vec_items t.places) p) (sym is) ∙ set-get_or (vec_items t.places) p None in
+    let changed = kept_changed t p low (Some k) (vec_items t.reads) ds
     (same_rows t.cards p (vec_items t.reads)) (replaced_others t p k low is e c.args.nth c.requires.there c.requires.same)
     (replaced_kept t p k low is e c.args.nth c.requires.there c.requires.same) in
     record {
       listed = t.listed;
       read = t.read;
       drafted = t.drafted;
-      kept = λ q h. ap (λ l. kept_at t.cards (vec_items t.reads) ds q (get_or l q place.Free)) (sym unset) ∙ changed q h;
+      kept = λ q h. ap (λ l. kept_at t.cards (vec_items t.reads) ds q (get_or l q None)) (sym unset) ∙ changed q h;
     }
 
 pub returns : goal.returns
@@ -69,9 +68,9 @@ returns c =
     let below = replaced_low t p k low is c.args.draft c.args.nth c.requires.there c.requires.same in
     let e = c.args.draft in
     let ds = set (vec_items t.drafts) (p * 32 + c.args.nth) e in
-    let unset = ap (set (vec_items t.places) p) (sym is) ∙ set-get_or (vec_items t.places) p place.Free in
+    let unset = ap (set (vec_items t.places) p) (sym is) ∙ set-get_or (vec_items t.places) p None in
     ap (with_list (table_of t))
     (ap (λ l. each (stands t.cards (vec_items t.reads) ds) 0 (take t.used l)) (sym unset)
-    ∙ list_changed t p low (place.Open k) (vec_items t.reads) ds
+    ∙ list_changed t p low (Some k) (vec_items t.reads) ds
     (same_rows t.cards p (vec_items t.reads)) (replaced_others t p k low is e c.args.nth c.requires.there c.requires.same)
     ∙ ap (set (list_of t) p) (replaced_stands t p k low is e c.args.nth c.requires.there c.requires.same))

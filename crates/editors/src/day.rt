@@ -1,6 +1,4 @@
 // A day with a shelf: the books, the script, and its answers.
-ghost use Rattle.std.specs.Prelude.{◌≤◌, length, IfOk};
-
 use crate::parse::{BooksSize, Instruction, parse};
 use crate::show::Shown;
 use catalogue::BooksMemory;

@@ -24,21 +24,11 @@ impl Told<'_> {
         ensures { result ≡ some (deed_told deed by.0) (lines_of self.now.file.now self.now.count) }
     {
         for place in self.links.edges_from(node_of(by)) {
-            if self.tells_at(place, by, deed) {
+            if self.record(place).shows(by, deed) {
                 return true;
             }
         }
         false
-    }
-
-    // Whether a record tells it. A record of another transaction or of another card is passed over.
-    fn tells_at(&self, place: usize, by: TxNo, deed: Deed) -> bool
-        requires { place < self.now.count }
-        ensures { (l : OneLine) → decoded (part self.now.file.now place) ≡ Ok l → result ≡ deed_told deed by.0 l }
-    {
-        self.transaction(place) == by
-            && self.card(place) == deed.card()
-            && deed.is_told(by, &self.line(place))
     }
 
     // Whether the transaction of a record has no end.
@@ -46,7 +36,7 @@ impl Told<'_> {
         requires { place < self.now.count }
         ensures { (l : OneLine) → decoded (part self.now.file.now place) ≡ Ok l → result ≡ not (some (ends l.transaction.0) (lines_of self.now.file.now self.now.count)) }
     {
-        !self.tells(self.transaction(place), Deed::Ended)
+        !self.tells(self.record(place).transaction(), Deed::Ended)
     }
 
     // The place of the first record whose transaction has no end.

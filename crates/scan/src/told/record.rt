@@ -1,44 +1,60 @@
 // One record that was taken in, read again.
-ghost use Rattle.std.specs.Prelude.{◌≡◌, ◌<◌, true, Ok};
+ghost use Rattle.std.specs.Prelude.{◌≡◌, ◌<◌, true, Ok, is_ok};
 ghost use Rattle.records.specs.declared.line.Line.{Line as OneLine};
 ghost use Rattle.records.specs.Format.{decoded, good_card};
 ghost use Rattle.records.specs.Parts.{part};
+ghost use Rattle.scan.specs.Scanning.{deed_told};
 
 use super::Told;
+use crate::deed::Deed;
 use records::{Line, RECORD_SIZE};
 use stamps::{CardNo, TxNo};
 
+// The bytes of a record that has no bad field.
+#[derive(Clone, Copy)]
+pub(super) struct GoodRecord<'a> {
+    bytes: &'a [u8],
+    ghost good: { is_ok (decoded bytes.now) ≡ true },
+}
+
 impl<'a> Told<'a> {
-    // The bytes of a record.
-    fn bytes(&self, place: usize) -> &'a [u8]
+    pub(super) fn record(&self, place: usize) -> GoodRecord<'a>
         requires { place < self.now.count }
-        ensures { result.now ≡ part self.now.file.now place }
+        ensures { result.bytes.now ≡ part self.now.file.now place }
     {
         let start = place * RECORD_SIZE;
-        &self.file[start..start + RECORD_SIZE]
+        GoodRecord {
+            bytes: &self.file[start..start + RECORD_SIZE],
+        }
+    }
+}
+
+impl GoodRecord<'_> {
+    fn line(&self) -> Line
+        ensures { decoded self.now.bytes.now ≡ Ok result }
+    {
+        Line::decode(self.bytes).unwrap()
     }
 
-    pub(super) fn line(&self, place: usize) -> Line
-        requires { place < self.now.count }
-        ensures { decoded (part self.now.file.now place) ≡ Ok result }
+    // The transaction, without reading the rest of the record.
+    pub(super) fn transaction(&self) -> TxNo
+        ensures { (l : OneLine) → decoded self.now.bytes.now ≡ Ok l → l.transaction ≡ result }
     {
-        Line::decode(self.bytes(place)).unwrap()
+        Line::transaction_in(self.bytes).unwrap()
     }
 
-    // The transaction of a record, without reading the rest of it.
-    pub(super) fn transaction(&self, place: usize) -> TxNo
-        requires { place < self.now.count }
-        ensures { (l : OneLine) → decoded (part self.now.file.now place) ≡ Ok l → l.transaction ≡ result }
+    // The card, without reading the rest of the record: 0 at an end.
+    fn card(&self) -> CardNo
+        ensures same { (l : OneLine) → decoded self.now.bytes.now ≡ Ok l → l.card ≡ result }
+        ensures fit { (l : OneLine) → decoded self.now.bytes.now ≡ Ok l → good_card l.kind l.card.0 ≡ true }
     {
-        Line::transaction_in(self.bytes(place)).unwrap()
+        Line::card_in(self.bytes).unwrap()
     }
 
-    // The card of a record, without reading the rest of it: 0 at an end.
-    pub(super) fn card(&self, place: usize) -> CardNo
-        requires { place < self.now.count }
-        ensures same { (l : OneLine) → decoded (part self.now.file.now place) ≡ Ok l → l.card ≡ result }
-        ensures fit { (l : OneLine) → decoded (part self.now.file.now place) ≡ Ok l → good_card l.kind l.card.0 ≡ true }
+    // Whether it tells this of a transaction. A record of another transaction or of another card is passed over.
+    pub(super) fn shows(&self, by: TxNo, deed: Deed) -> bool
+        ensures { (l : OneLine) → decoded self.now.bytes.now ≡ Ok l → result ≡ deed_told deed by.0 l }
     {
-        Line::card_in(self.bytes(place)).unwrap()
+        self.transaction() == by && self.card() == deed.card() && deed.is_told(by, &self.line())
     }
 }

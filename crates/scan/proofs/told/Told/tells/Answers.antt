@@ -30,17 +30,17 @@ loop-place-init c =
           (rw c.into_iter-place-iterator.ensures.into_iter_gives (c.edges_from-place-items.ensures ∙ ap (λ (m : ℕ). picks (leaves (edges s.links) m) (length (edges s.links))) c.node_of.ensures)),
     )
 
-pub tells_at-requires : goal.tells_at-requires
-tells_at-requires c = (turn c.args.self.now c.args.by.0 c.args.deed _ _ c.in-Some.place c.in-Some.ensures.steps c.loop-place.invariant.2).1
+pub record-requires : goal.record-requires
+record-requires c = (turn c.args.self.now c.args.by.0 c.args.deed _ _ c.in-Some.place c.in-Some.ensures.steps c.loop-place.invariant.2).1
 
-pub returns-then-tells_at : goal.returns-then-tells_at
-returns-then-tells_at c =
+pub returns-then-shows : goal.returns-then-shows
+returns-then-shows c =
     let s = c.args.self.now in
     let bs = s.file.now in
     let k = c.in-Some.place in
     let within = (turn s c.args.by.0 c.args.deed _ _ k c.in-Some.ensures.steps c.loop-place.invariant.2).1 in
     let (l, is) = read_as_line (decoded (part bs k)) (s.good k within) in
-    sym (some_here (deed_told c.args.deed c.args.by.0) bs k s.count l within is (sym (c.tells_at.ensures l is) ∙ c.if-tells_at.true))
+    sym (some_here (deed_told c.args.deed c.args.by.0) bs k s.count l within is (sym (c.shows.ensures l (ap decoded c.record.ensures ∙ is)) ∙ c.if-shows.true))
 
 pub loop-place-preserved : goal.loop-place-preserved
 loop-place-preserved c =
@@ -48,7 +48,7 @@ loop-place-preserved c =
     let t = c.args.by.0 in
     let d = c.args.deed in
     let told : Telling (deed_told d t) s.file.now s.count c.in-Some.place → ⊥ =
-    λ (lt, (l, is, tells)). let z : true ≡ false = sym tells ∙ sym (c.tells_at.ensures l is) ∙ c.if-tells_at.false in absurd (cc) in (
+    λ (lt, (l, is, tells)). let z : true ≡ false = sym tells ∙ sym (c.shows.ensures l (ap decoded c.record.ensures ∙ is)) ∙ c.if-shows.false in absurd (cc) in (
       tt,
       tt,
       passed_more (leaves (edges s.links) (node t)) (Telling (deed_told d t) s.file.now s.count) (length (edges s.links)) (linked_there s.file.now s.count (edges s.links) d t s.seen)

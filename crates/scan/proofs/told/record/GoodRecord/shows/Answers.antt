@@ -2,8 +2,8 @@ use Rattle.std.proofs.Common.{eqb, sym, ap, ◌∙◌}
 use Rattle.stamps.specs.declared.numbers.CardNo.{CardNo}
 use Rattle.stamps.specs.declared.numbers.TxNo.{TxNo}
 use Rattle.scan.proofs.Scans.{off_card, untold, apart_from}
-use Rattle.scan.proofs.told.Told.tells_at.Goals as goal
-use Rattle.scan.proofs.told.Told.tells_at.Goals.{then-eq, else-eq}
+use Rattle.scan.proofs.told.record.GoodRecord.shows.Goals as goal
+use Rattle.scan.proofs.told.record.GoodRecord.shows.Goals.{then-eq, else-eq}
 
 pub returns-else-eq-2 : goal.returns-else-eq-2
 returns-else-eq-2 c = λ l e.

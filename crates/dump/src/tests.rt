@@ -4,15 +4,9 @@ use std::test::Fail;
 // The DONE of transaction 1, and another record of it with these letters.
 fn two_records(letters: [u8; 4]) -> [u8; 64] {
     let mut file = [0u8; 64];
-    file[0] = b'D';
-    file[1] = b'O';
-    file[2] = b'N';
-    file[3] = b'E';
+    file[0..4].copy_from_slice(b"DONE");
     file[7] = 1;
-    file[32] = letters[0];
-    file[33] = letters[1];
-    file[34] = letters[2];
-    file[35] = letters[3];
+    file[32..36].copy_from_slice(&letters);
     file[39] = 1;
     file
 }

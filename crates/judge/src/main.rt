@@ -3,11 +3,8 @@
 
 mod text;
 
-use history::LARGEST_FILE;
+use history::READ_AT_MOST;
 use std::io::Read;
-
-// One byte more than the largest file has, to see that a file is too long.
-const READ_AT_MOST: u64 = LARGEST_FILE as u64 + 1;
 
 fn main(rt: HostRuntime) -> anyhow::Result<()> {
     let mut file = Vec::new(rt.alloc());

@@ -1,4 +1,4 @@
-ghost use Rattle.std.specs.Prelude.{◌≡◌, ◌≤◌, not, ◌&&◌, length};
+ghost use Rattle.std.specs.Prelude.{◌≤◌, length};
 ghost use Rattle.reach.specs.Paths.{edges};
 ghost use Rattle.answers.specs.Questions.{Snapshots, Conflicts};
 
@@ -14,13 +14,6 @@ pub(crate) struct Searched {
     pub(crate) cons: bool,
     // No two independent committed transactions wrote one card.
     pub(crate) wcf: bool,
-}
-
-// Whether what held so far holds of one more too.
-fn still(held: bool, broken: bool) -> bool
-    ensures { result ≡ (held && not broken) }
-{
-    held && !broken
 }
 
 impl<W: Listing> Listed<'_, W> {
@@ -44,15 +37,8 @@ impl<W: Listing> Listed<'_, W> {
         for (owner, entry) in self.entries.iter().enumerate() {
             if entry.owner as usize == owner {
                 dependences.writers.search(owner, marks, &mut queue);
-                cons = still(cons, self.stale(marks, owner));
-                let conflict = self.conflicting(
-                    dones,
-                    &dependences.readers,
-                    marks,
-                    &mut back,
-                    owner,
-                );
-                wcf = still(wcf, conflict);
+                cons &= !self.stale(marks, owner);
+                wcf &= !self.conflicting(dones, &dependences.readers, marks, &mut back, owner);
                 queue.clear(marks);
             }
         }

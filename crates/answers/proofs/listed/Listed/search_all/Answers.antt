@@ -36,11 +36,11 @@ loop-owner-preserved g c =
           let ms = w.search.new.marks in
           let long : m ≤ length ms = omega (arith, w.search.auto.marks, inv.marks, c.fill.ensures.len, c.requires.long) in
           let snap : Snapshot es gs m n w.stale.result = record { marks = ms; reached = w.search.ensures.reached; long = long; tells = sym w.stale.ensures } in
-          let conf : Conflict es ds gs hs m n w.conflicting-conflict.result = record { forward = ms; reached = w.search.ensures.reached; long = long; asked = w.conflicting-conflict.ensures } in
+          let conf : Conflict es ds gs hs m n w.conflicting.result = record { forward = ms; reached = w.search.ensures.reached; long = long; asked = w.conflicting.ensures } in
           record {
-            cons = subst (λ (b : Bool). Snapshots es gs m (n + 1) b) (sym (w.cons-is ∙ w.still-cons.ensures)) (each_more es (Snapshot es gs m) n _ _ lt w.if-entry-owner.true snap inv.cons);
-            wcf = subst (λ (b : Bool). Conflicts es ds gs hs m (n + 1) b) (sym (w.wcf-is ∙ w.still-wcf.ensures)) (each_more es (Conflict es ds gs hs m) n _ _ lt w.if-entry-owner.true conf inv.wcf);
-            back = ap length w.back-is ∙ w.conflicting-conflict.auto.backward ∙ inv.back;
+            cons = subst (λ (b : Bool). Snapshots es gs m (n + 1) b) (sym w.cons-is) (each_more es (Snapshot es gs m) n _ _ lt w.if-entry-owner.true snap inv.cons);
+            wcf = subst (λ (b : Bool). Conflicts es ds gs hs m (n + 1) b) (sym w.wcf-is) (each_more es (Conflict es ds gs hs m) n _ _ lt w.if-entry-owner.true conf inv.wcf);
+            back = ap length w.back-is ∙ w.conflicting.auto.backward ∙ inv.back;
             marks = c.if-entry-owner.auto.marks ∙ inv.marks;
             clear = subst (λ (xs : List ℕ). Clear xs) (sym w.marks-is) w.clear.ensures.clear;
             empty = ap (λ (q : Queue). q.nodes.items) w.queue-is ∙ w.clear.ensures.empty;

@@ -6,7 +6,7 @@ ghost use Rattle.digest.specs.Entries.{Sound};
 ghost use Rattle.digest.specs.Told.{Told};
 ghost use Rattle.verdicts.specs.Verdicts.{Judged};
 
-use super::commits::{dones, has_dirty_read};
+use super::commits::dones;
 use super::dependences::Dependences;
 use super::listed::Listed;
 use digest::{Entry, Listing, index};
@@ -40,11 +40,5 @@ fn of_entries<W: Listing>(entries: &[Entry], marks: &mut [u32]) -> Verdict
     let dones = dones(entries);
     let dependences = Dependences::of(entries);
     let listed = Listed::<W>::new(entries);
-    let dirty = has_dirty_read(entries, &dones);
-    let searched = listed.search_all(&dones, &dependences, marks);
-    Verdict {
-        aca: !dirty,
-        cons: searched.cons,
-        wcf: searched.wcf,
-    }
+    listed.verdict(&dones, &dependences, marks)
 }

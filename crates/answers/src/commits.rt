@@ -24,8 +24,7 @@ pub(crate) fn dones(entries: &[Entry]) -> [Option<u16>; PLACES]
 pub(crate) fn is_committed(dones: &[Option<u16>], owner: u16) -> bool
     ensures { result ≡ committed dones.now owner }
 {
-    let owner = owner as usize;
-    owner < dones.len() && dones[owner].is_some()
+    dones.get(owner as usize).copied().flatten().is_some()
 }
 
 // Whether there is a DONE, before the place.

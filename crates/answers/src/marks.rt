@@ -5,6 +5,5 @@ ghost use Rattle.answers.specs.Questions.{marked};
 pub(crate) fn is_marked(marks: &[u32], owner: u16) -> bool
     ensures { result ≡ marked marks.now owner }
 {
-    let owner = owner as usize;
-    owner < marks.len() && marks[owner] > 0
+    marks.get(owner as usize).copied().unwrap_or(0) > 0
 }

@@ -1,61 +1,51 @@
-ghost use Rattle.std.specs.Prelude.{◌≡◌, ◌≤◌, not, ◌&&◌, length};
+ghost use Rattle.std.specs.Prelude.{◌≡◌, ◌≤◌, not, length};
 ghost use Rattle.reach.specs.Paths.{edges};
-ghost use Rattle.answers.specs.Questions.{Snapshots, Conflicts};
+ghost use Rattle.answers.specs.Questions.{some_below, dirty, Snapshots, Conflicts};
 
+use super::commits::has_dirty_read;
 use super::dependences::Dependences;
 use super::listed::Listed;
 use digest::Listing;
 use reach::{PLACES, Queue};
-
-// What a search from each transaction tells.
-#[derive(Clone, Copy)]
-pub(crate) struct Searched {
-    // Every snapshot is consistent.
-    pub(crate) cons: bool,
-    // No two independent committed transactions wrote one card.
-    pub(crate) wcf: bool,
-}
-
-// Whether what held so far holds of one more too.
-fn still(held: bool, broken: bool) -> bool
-    ensures { result ≡ (held && not broken) }
-{
-    held && !broken
-}
+use verdicts::Verdict;
 
 impl<W: Listing> Listed<'_, W> {
-    // Searches from each transaction for those that it depends on, and asks both questions of it.
-    pub(crate) fn search_all(
+    // The three answers: on dirty reads from the entries, on the others from a search from each transaction for those that it depends on.
+    pub(crate) fn verdict(
         &self,
         dones: &[Option<u16>],
         dependences: &Dependences,
         marks: &mut [u32],
-    ) -> Searched
+    ) -> Verdict
         requires dones { length self.now.entries.now ≤ length dones.now }
         requires long { length self.now.entries.now ≤ length marks.old }
+        ensures aca { result.aca ≡ not (some_below (dirty self.now.entries.now dones.now) (length self.now.entries.now)) }
         ensures cons { Snapshots self.now.entries.now (edges dependences.now.writers) (length self.now.entries.now) (length self.now.entries.now) result.cons }
         ensures wcf { Conflicts self.now.entries.now dones.now (edges dependences.now.writers) (edges dependences.now.readers) (length self.now.entries.now) (length self.now.entries.now) result.wcf }
     {
-        let mut cons = true;
-        let mut wcf = true;
+        let dirty = has_dirty_read(self.entries, dones);
+        let mut verdict = Verdict {
+            aca: !dirty,
+            cons: true,
+            wcf: true,
+        };
         let mut back = [0; PLACES];
         let mut queue = Queue::new();
         marks.fill(0);
         for (owner, entry) in self.entries.iter().enumerate() {
             if entry.owner as usize == owner {
                 dependences.writers.search(owner, marks, &mut queue);
-                cons = still(cons, self.stale(marks, owner));
-                let conflict = self.conflicting(
+                verdict.cons &= !self.stale(marks, owner);
+                verdict.wcf &= !self.conflicting(
                     dones,
                     &dependences.readers,
                     marks,
                     &mut back,
                     owner,
                 );
-                wcf = still(wcf, conflict);
                 queue.clear(marks);
             }
         }
-        Searched { cons, wcf }
+        verdict
     }
 }

@@ -36,23 +36,20 @@ impl Entry {
     pub(crate) fn wrote(&self, card: CardNo, transaction: TxNo) -> bool
         ensures { result ≡ written self.now card.0 transaction.0 }
     {
-        self.is_writ() && self.transaction.0 == transaction.0 && self.card.0 == card.0
+        self.is_writ() && self.transaction == transaction && self.card == card
     }
 
     // Whether it writes a newer version of the card than `read` reads.
     pub fn is_newer(&self, read: &Entry) -> bool
         ensures { result ≡ newer self.now read.now }
     {
-        self.is_writ() && self.card.0 == read.card.0 && self.version > read.version
+        self.is_writ() && self.card == read.card && self.version > read.version
     }
 
     // Whether they write one card in two transactions.
     pub fn rivals(&self, other: &Entry) -> bool
         ensures { result ≡ rival self.now other.now }
     {
-        self.is_writ()
-            && other.is_writ()
-            && self.card.0 == other.card.0
-            && self.owner != other.owner
+        self.is_writ() && other.is_writ() && self.card == other.card && self.owner != other.owner
     }
 }

@@ -9,7 +9,7 @@ pub struct Entry {
     pub card: CardNo,
     // The place of the first record of its transaction, which stands for the transaction in a search.
     pub owner: u16,
-    // Of a READ the version read, of a WRIT the version written; else 0.
+    // Of a READ the version read, of a WRIT the version written; version 0 is the card as nobody has written it yet, and stands at an end too.
     pub version: u16,
 }
 

@@ -71,7 +71,7 @@ impl<W: Listing> Register<W> {
     {
         for place in Places::from_node(&self.transactions, node_of(transaction)) {
             let entry = self.entries[place];
-            if entry.transaction.0 == transaction.0 {
+            if entry.transaction == transaction {
                 return entry.owner;
             }
         }

@@ -17,7 +17,8 @@ pub trait Walk {
 
     // The next older place that comes from the same node as this place.
     fn next_older(&self, place: usize) -> Option<usize>
-        ensures { (node : ℕ) → place < count self.now → comes self.now node place ≡ true → result ≡ first (picks (comes self.now node) place) };
+        requires { place < count self.now }
+        ensures { (node : ℕ) → comes self.now node place ≡ true → result ≡ first (picks (comes self.now node) place) };
 }
 
 // The places that come from a node, newest first.

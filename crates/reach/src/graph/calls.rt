@@ -102,6 +102,6 @@ impl Walk for Graph {
     }
 
     fn next_older(&self, place: usize) -> Option<usize> {
-        self.edges.get(place)?.older.map(usize::from)
+        self.edges[place].older.map(usize::from)
     }
 }

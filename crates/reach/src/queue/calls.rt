@@ -37,6 +37,7 @@ impl Queue {
     {
         for node in &self.nodes {
             let node = *node as usize;
+            // By its index: a contract tells nothing of a mark that is written through `get_mut`.
             if node < marks.len() {
                 marks[node] = 0;
             }

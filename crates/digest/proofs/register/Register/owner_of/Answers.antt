@@ -1,5 +1,5 @@
-use Rattle.std.proofs.Common.{◌≡◌, ℕ, suc, ◌%◌, ◌<◌, Bool, eqb, List, [], ◌∷◌, length, sym, ap, ◌∙◌, arith}
-use Rattle.std.proofs.lemmas.Bool.{eqb-true, ne_eqb}
+use Rattle.std.proofs.Common.{◌≡◌, ℕ, suc, ◌%◌, ◌<◌, Bool, false, eqb, List, [], ◌∷◌, length, sym, ap, ◌∙◌, arith}
+use Rattle.std.proofs.lemmas.Bool.{eqb-true}
 use Rattle.reach.specs.Links.{picks}
 use Rattle.digest.specs.declared.entry.Entry.{Entry}
 use Rattle.digest.specs.Entries.{at, owner_in}
@@ -23,8 +23,8 @@ module _ (count : ℕ) (comes : ℕ → ℕ → Bool) (es : List Entry) (t : ℕ
     here : k < length es
     here = ahead_here count comes tx_node es linked _ (t % 2048) (length es) (omega arith) (only es t) k xs ys step h
 
-    goes_on : ((at es k).transaction.0 ≡ t → ⊥) → Left ys
-    goes_on ne = ahead_more count comes tx_node es linked _ (t % 2048) (length es) (omega arith) (only es t) k xs ys step h (ne_eqb _ _ ne)
+    goes_on : eqb (at es k).transaction.0 t ≡ false → Left ys
+    goes_on f = ahead_more count comes tx_node es linked _ (t % 2048) (length es) (omega arith) (only es t) k xs ys step h f
 
     found : (at es k).transaction.0 ≡ t → owner_in es t (length es) ≡ (at es k).owner
     found is =
@@ -60,13 +60,13 @@ loop-place-preserved g c =
       tt,
       tt,
       goes_on (g.W.Walk.count r.transactions) (g.W.Walk.comes r.transactions) r.entries.items c.args.transaction.0 r.linked c.in-Some.place _ _ c.in-Some.ensures.steps c.loop-place.invariant.2
-          (rw c.deref.ensures.0 at c.if-entry-transaction.false),
+          (sym (rw c.deref.ensures.0 at c.eq.ensures) ∙ c.if-eq.false),
     )
 
-pub returns-then-entry-transaction : goal.returns-then-entry-transaction
-returns-then-entry-transaction g c =
+pub returns-then-eq : goal.returns-then-eq
+returns-then-eq g c =
     let r = c.args.self.now in
-    let is = rw c.deref.ensures.0 at c.if-entry-transaction.true in
+    let is = eqb-true _ _ (sym (rw c.deref.ensures.0 at c.eq.ensures) ∙ c.if-eq.true) in
     rw c.deref.ensures.0 (sym (found (g.W.Walk.count r.transactions) (g.W.Walk.comes r.transactions) r.entries.items c.args.transaction.0 r.linked c.in-Some.place _ _ c.in-Some.ensures.steps c.loop-place.invariant.2 is))
 
 pub returns : goal.returns

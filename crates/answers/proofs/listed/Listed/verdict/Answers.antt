@@ -1,15 +1,17 @@
 use Rattle.std.proofs.Common.{ℕ, ◌+◌, ◌<◌, ◌≤◌, Bool, List, length, sym, refl, ap, ◌∙◌, subst, arith}
+use Rattle.verdicts.specs.declared.verdict.Verdict.{Verdict}
 use Rattle.reach.specs.Paths.{edges, Marked}
 use Rattle.reach.specs.Searches.{Clear}
 use Rattle.reach.specs.declared.queue.Queue.{Queue}
 use Rattle.reach.proofs.SearchLaws.{none_marked}
 use Rattle.answers.specs.Questions.{Snapshot, Snapshots, Conflict, Conflicts}
 use Rattle.answers.proofs.EachLaws.{each_more, each_skip}
-use Rattle.answers.proofs.listed.Listed.search_all.Goals as goal
-use Rattle.answers.proofs.listed.Listed.search_all.Goals.{then-entry-owner, else-entry-owner}
+use Rattle.answers.proofs.listed.Listed.verdict.Goals as goal
+use Rattle.answers.proofs.listed.Listed.verdict.Goals.{then-entry-owner, else-entry-owner}
 
 pub loop-owner-init : goal.loop-owner-init
 loop-owner-init g c = record {
+  aca = refl;
   cons = λ o lt is. absurd (omega arith);
   wcf = λ o lt is. absurd (omega arith);
   back = refl;
@@ -36,18 +38,20 @@ loop-owner-preserved g c =
           let ms = w.search.new.marks in
           let long : m ≤ length ms = omega (arith, w.search.auto.marks, inv.marks, c.fill.ensures.len, c.requires.long) in
           let snap : Snapshot es gs m n w.stale.result = record { marks = ms; reached = w.search.ensures.reached; long = long; tells = sym w.stale.ensures } in
-          let conf : Conflict es ds gs hs m n w.conflicting-conflict.result = record { forward = ms; reached = w.search.ensures.reached; long = long; asked = w.conflicting-conflict.ensures } in
+          let conf : Conflict es ds gs hs m n w.conflicting.result = record { forward = ms; reached = w.search.ensures.reached; long = long; asked = w.conflicting.ensures } in
           record {
-            cons = subst (λ (b : Bool). Snapshots es gs m (n + 1) b) (sym (w.cons-is ∙ w.still-cons.ensures)) (each_more es (Snapshot es gs m) n _ _ lt w.if-entry-owner.true snap inv.cons);
-            wcf = subst (λ (b : Bool). Conflicts es ds gs hs m (n + 1) b) (sym (w.wcf-is ∙ w.still-wcf.ensures)) (each_more es (Conflict es ds gs hs m) n _ _ lt w.if-entry-owner.true conf inv.wcf);
-            back = ap length w.back-is ∙ w.conflicting-conflict.auto.backward ∙ inv.back;
+            aca = ap (λ (v : Verdict). v.aca) w.verdict-is ∙ inv.aca;
+            cons = subst (λ (b : Bool). Snapshots es gs m (n + 1) b) (sym (ap (λ (v : Verdict). v.cons) w.verdict-is)) (each_more es (Snapshot es gs m) n _ _ lt w.if-entry-owner.true snap inv.cons);
+            wcf = subst (λ (b : Bool). Conflicts es ds gs hs m (n + 1) b) (sym (ap (λ (v : Verdict). v.wcf) w.verdict-is)) (each_more es (Conflict es ds gs hs m) n _ _ lt w.if-entry-owner.true conf inv.wcf);
+            back = ap length w.back-is ∙ w.conflicting.auto.backward ∙ inv.back;
             marks = c.if-entry-owner.auto.marks ∙ inv.marks;
             clear = subst (λ (xs : List ℕ). Clear xs) (sym w.marks-is) w.clear.ensures.clear;
             empty = ap (λ (q : Queue). q.nodes.items) w.queue-is ∙ w.clear.ensures.empty;
           }
       | else-entry-owner w ↦ record {
-        cons = subst (λ (b : Bool). Snapshots es gs m (n + 1) b) (sym w.cons-is) (each_skip es (Snapshot es gs m) n _ w.if-entry-owner.false inv.cons);
-        wcf = subst (λ (b : Bool). Conflicts es ds gs hs m (n + 1) b) (sym w.wcf-is) (each_skip es (Conflict es ds gs hs m) n _ w.if-entry-owner.false inv.wcf);
+        aca = ap (λ (v : Verdict). v.aca) w.verdict-is ∙ inv.aca;
+        cons = subst (λ (b : Bool). Snapshots es gs m (n + 1) b) (sym (ap (λ (v : Verdict). v.cons) w.verdict-is)) (each_skip es (Snapshot es gs m) n _ w.if-entry-owner.false inv.cons);
+        wcf = subst (λ (b : Bool). Conflicts es ds gs hs m (n + 1) b) (sym (ap (λ (v : Verdict). v.wcf) w.verdict-is)) (each_skip es (Conflict es ds gs hs m) n _ w.if-entry-owner.false inv.wcf);
         back = ap length w.back-is ∙ inv.back;
         marks = c.if-entry-owner.auto.marks ∙ inv.marks;
         clear = subst (λ (xs : List ℕ). Clear xs) (sym w.marks-is) inv.clear;

@@ -1,10 +1,11 @@
 // A shelf over drawers.
-ghost use Rattle.std.specs.Prelude.{◌≡◌, IfSome, MatchOption, is_some, if◌then◌else◌, Some, None, Ok, Err, nat_lt};
+ghost use Rattle.std.specs.Prelude.{◌≡◌, IfSome, is_some, if◌then◌else◌, Ok, Err, nat_lt};
+ghost use Rattle.std.specs.Option.{option_map};
 ghost use Rattle.stamps.specs.Counts.{countable, counts_at, cut};
 ghost use Rattle.stamps.specs.Entries.{entries};
 ghost use Rattle.shelf.specs.declared.refusal.CheckRefusal.TheVariants.{NoFit};
-ghost use Rattle.shelf.specs.Meaning.{first_version, version_at};
-ghost use Rattle.drawers.specs.Places.{version_of};
+ghost use Rattle.shelf.specs.Meaning.{version_at};
+ghost use Rattle.drawers.specs.Places.{version_kept};
 
 use crate::giving::Drawers;
 use crate::places::Written;
@@ -49,7 +50,7 @@ impl<D: Drawers> PlacedShelf<D> {
 
     // What is written of a version that the shelf has; none of version 0.
     fn found(&self, card: CardNo, version: VersionNo) -> Option<Option<&Written>>
-        ensures { MatchOption result (version_at (D.meaning self.now.drawers) card.0 version.0 ≡ None) (λ o. MatchOption o (version_at (D.meaning self.now.drawers) card.0 version.0 ≡ Some first_version) (λ t. version_at (D.meaning self.now.drawers) card.0 version.0 ≡ Some (version_of (D.meaning self.now.drawers).width t.now))) }
+        ensures { option_map (λ o. version_kept (D.meaning self.now.drawers).width (option_map (λ t. t.now) o)) result ≡ version_at (D.meaning self.now.drawers) card.0 version.0 }
     {
         if version > self.newest(card)? {
             None

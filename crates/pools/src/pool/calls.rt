@@ -56,7 +56,7 @@ impl PoolDrawer {
         ensures none { size.cards ≡ 0 → size.width ≡ 0 → pool_meaning result ≡ no_cards }
     {
         let PoolMemory {
-            newest: mut newest,
+            mut newest,
             chains,
             places,
         } = memory;

@@ -11,7 +11,8 @@ use drawers::Written;
 use stamps::{CardNo, VersionNo};
 
 impl PoolDrawer {
-    // The link to a version above 0 of a card, up to the newest.
+    // The link to a version above 0 of a card, up to the newest. Nothing is counted here: links are followed up to the one that is
+    // asked for, and an iterator over them would be asked for its last.
     pub(crate) fn link(&self, card: CardNo, version: VersionNo) -> Link
         requires listed { card.0 < self.now.size.cards }
         requires above { 0 < version.0 }

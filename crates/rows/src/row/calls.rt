@@ -36,10 +36,7 @@ impl RowDrawers {
         ensures free { row_meaning result ≡ fresh size each_own }
         ensures none { size.cards ≡ 0 → size.width ≡ 0 → row_meaning result ≡ no_cards }
     {
-        let RowMemory {
-            used: mut used,
-            places,
-        } = memory;
+        let RowMemory { mut used, places } = memory;
         used.fill(0);
         RowDrawers { size, used, places }
     }

@@ -15,7 +15,6 @@ use Rattle.transactions.specs.Watched.{Watched}
 use Rattle.transactions.proofs.Putting.{puts_cards}
 use Rattle.transactions.proofs.Theorems.{set_up_begins}
 use Rattle.transactions.proofs.Promised.{open_promised, read_promised, draft_promised, commit_promised, abandon_promised, close_promised, upheld}
-use Rattle.books.specs.declared.slip.Slip.{Slip}
 use Rattle.sessions.specs.declared.answer.Answer.{Answer}
 use Rattle.sessions.specs.declared.answer.Answer.TheVariants as answers
 use Rattle.sessions.specs.declared.command.Command.{Command}
@@ -62,8 +61,8 @@ call_cards m b events.Close = refl
 same_cards : (m : Meaning) (b : State) (a : Answer) → (shelf_after m b a).cards ≡ m.cards
 same_cards m b (answers.SetUp r) = refl
 same_cards m b (answers.Call e) = call_cards m b e
-same_cards m h.books answers.NoSlip = refl
-same_cards m h.books answers.SlipsHeld = refl
+same_cards m b answers.NoSlip = refl
+same_cards m b answers.SlipsHeld = refl
 same_cards m b (answers.Versions x r) = refl
 same_cards m b (answers.Stamp x k r) = refl
 same_cards m b (answers.Journal ls) = refl

@@ -1,4 +1,4 @@
-use Rattle.std.proofs.Common.{IfOk, vec_items, ap, subst}
+use Rattle.std.proofs.Common.{IfOk, vec_items, subst}
 use Rattle.sessions.specs.Exactly.{Held, DoneExactly}
 use Rattle.sessions.specs.Holding.{held}
 use Rattle.sessions.proofs.Grown.{all_done}

@@ -69,13 +69,13 @@ returns c =
     let new = added_place t p k low is e c.requires.listed few c.requires.undrafted in
     let items = c.enter.ensures.items ∙ ap (λ w. set (vec_items t.drafts.items) (p * w + k.drafts) e) t.wide in
     let made : ℕ → List DraftEntry → Table = λ n xs.
-        record {
-          places_size = vec_len t.places;
-          reads_size = vec_len t.reads.items;
-          drafts_size = n;
-          cards = t.reads.width;
-          list = each (stands t.reads.width rs xs) 0 (take t.used (set (vec_items t.places) p new));
-        } in
+    record {
+      places_size = vec_len t.places;
+      reads_size = vec_len t.reads.items;
+      drafts_size = n;
+      cards = t.reads.width;
+      list = each (stands t.reads.width rs xs) 0 (take t.used (set (vec_items t.places) p new));
+    } in
     ap (λ n. made n (vec_items c.enter.new.self.items)) c.enter.ensures.size ∙ ap (made (vec_len t.drafts.items)) items
     ∙ ap (with_list (table_of t))
     (list_changed t p low new rs ds

@@ -65,13 +65,13 @@ returns c =
     let new = read_place t p k low is e c.requires.listed c.requires.unread in
     let now = c.enter.new.self in
     let made : ℕ → ℕ → List ReadEntry → Table = λ n w xs.
-        record {
-          places_size = vec_len t.places;
-          reads_size = n;
-          drafts_size = vec_len t.drafts.items;
-          cards = w;
-          list = each (stands w xs ds) 0 (take t.used (set (vec_items t.places) p new));
-        } in
+    record {
+      places_size = vec_len t.places;
+      reads_size = n;
+      drafts_size = vec_len t.drafts.items;
+      cards = w;
+      list = each (stands w xs ds) 0 (take t.used (set (vec_items t.places) p new));
+    } in
     ap (λ n. made n now.width (vec_items now.items)) c.enter.ensures.size
     ∙ ap (λ w. made (vec_len t.reads.items) w (vec_items now.items)) c.enter.ensures.width
     ∙ ap (made (vec_len t.reads.items) t.reads.width) c.enter.ensures.items

@@ -1,4 +1,4 @@
-use Rattle.std.proofs.Common.{◌≡◌, suc, ◌*◌, ◌≤◌, ◌&&◌, ltb, leb, [], ◌∷◌, ◌++◌, replicate, None, vec_len, sym, ap, ◌∙◌, mul-le-mul_right, add-one, arith}
+use Rattle.std.proofs.Common.{◌≡◌, suc, ◌*◌, ◌≤◌, ◌&&◌, ltb, leb, [], ◌∷◌, ◌++◌, None, vec_len, sym, ap, ◌∙◌, mul-le-mul_right, arith}
 use Rattle.std.proofs.lemmas.List.{replicate_more}
 use Rattle.std.proofs.lemmas.Bool.{and_parts, leb-true}
 use Rattle.transactions.specs.State.{most_drafts}

@@ -57,13 +57,13 @@ returns c =
     let unset = ap (set (vec_items t.places) p) (sym is) ∙ set-get_or (vec_items t.places) p None in
     let items = c.enter.ensures.items ∙ ap (λ w. set (vec_items t.drafts.items) (p * w + c.args.nth) e) t.wide in
     let made : ℕ → List DraftEntry → Table = λ n xs.
-        record {
-          places_size = vec_len t.places;
-          reads_size = vec_len t.reads.items;
-          drafts_size = n;
-          cards = t.reads.width;
-          list = each (stands t.reads.width rs xs) 0 (take t.used (vec_items t.places));
-        } in
+    record {
+      places_size = vec_len t.places;
+      reads_size = vec_len t.reads.items;
+      drafts_size = n;
+      cards = t.reads.width;
+      list = each (stands t.reads.width rs xs) 0 (take t.used (vec_items t.places));
+    } in
     ap (λ n. made n (vec_items c.enter.new.self.items)) c.enter.ensures.size ∙ ap (made (vec_len t.drafts.items)) items
     ∙ ap (with_list (table_of t))
     (ap (λ l. each (stands t.reads.width rs ds) 0 (take t.used l)) (sym unset)

@@ -15,14 +15,13 @@ use Rattle.transactions.specs.Watched.{Watched}
 use Rattle.transactions.proofs.Putting.{puts_cards}
 use Rattle.transactions.proofs.Theorems.{set_up_begins}
 use Rattle.transactions.proofs.Promised.{open_promised, read_promised, draft_promised, commit_promised, abandon_promised, close_promised, upheld}
-use Rattle.books.specs.declared.slip.Slip.{Slip}
 use Rattle.sessions.specs.declared.answer.Answer.{Answer}
 use Rattle.sessions.specs.declared.answer.Answer.TheVariants as answers
 use Rattle.sessions.specs.declared.command.Command.{Command}
 use Rattle.sessions.specs.Slips.{slips_after}
 use Rattle.sessions.specs.Scripts.{SoFar, nothing_yet, account_by, told_by, told, AnswersTo}
 use Rattle.sessions.specs.Laws.{On, JournalLaw, AnswerLaw, LawfulSession, Ends, SessionLaw}
-use Rattle.sessions.specs.Exactly.{ExactCall, Exact, shelf_call, shelf_after, BooksCall, BooksAfter, Ran, DoneExactly}
+use Rattle.sessions.specs.Exactly.{ExactCall, Exact, shelf_call, shelf_after, BooksCall, BooksAfter, Held, Ran, DoneExactly}
 use Rattle.sessions.specs.Exactly.Ran.{begun, goes_on}
 use Rattle.sessions.proofs.Told.{versions_told, stamp_told, journal_told}
 
@@ -105,26 +104,26 @@ lawful_more n p (d ∷ cs) [] c a l x y = absurd l
 lawful_more n p (d ∷ cs) (b ∷ rs) c a l x y = (l.0, l.1, lawful_more n (told_by n p b) cs rs c a l.2 x y)
 
 -- what is told stands: the slips are those in hand, and the account is watched
-record Stands (n : ℕ) (p : SoFar) (m : Meaning) (b : State) (xs : List Slip) : Type 0 where
+record Stands (n : ℕ) (p : SoFar) (m : Meaning) (h : Held) : Type 0 where
   cards : m.cards ≡ n
-  slips : p.slips ≡ xs
-  watched : On p.account (λ u. Watched u m b)
+  slips : p.slips ≡ h.slips
+  watched : On p.account (λ u. Watched u m h.books)
 
 module _ (m₀ : Meaning) (b₀ : State) where
-  ran_lawful : {cs : List Command} {rs : List Answer} {m : Meaning} {b : State} {xs : List Slip} → Ran m₀ b₀ cs rs m b xs
-      → LawfulSession m₀.cards nothing_yet cs rs × Stands m₀.cards (told m₀.cards nothing_yet rs) m b xs
+  ran_lawful : {cs : List Command} {rs : List Answer} {m : Meaning} {h : Held} → Ran m₀ b₀ cs rs m h
+      → LawfulSession m₀.cards nothing_yet cs rs × Stands m₀.cards (told m₀.cards nothing_yet rs) m h
   ran_lawful begun = (tt, record { cards = refl; slips = refl; watched = tt })
-  ran_lawful (goes_on {cs} {rs} {m} {b} {xs} r s c a n d ys q) =
+  ran_lawful (goes_on {cs} {rs} {m} {h} r s c a n d q) =
       let (l, k) = ran_lawful r in
       let p = told m₀.cards nothing_yet rs in
-      let (y, w) = law_of m₀.cards m b d s k.cards p.account a k.watched q.exact q.books in
-      let next : Stands m₀.cards (told_by m₀.cards p a) n d ys = record {
-        cards = ap (λ (z : Meaning). z.cards) q.shelf ∙ same_cards m b a ∙ k.cards;
+      let (y, w) = law_of m₀.cards m h.books d.books s k.cards p.account a k.watched q.exact q.books in
+      let next : Stands m₀.cards (told_by m₀.cards p a) n d = record {
+        cards = ap (λ (z : Meaning). z.cards) q.shelf ∙ same_cards m h.books a ∙ k.cards;
         slips = ap (λ zs. slips_after zs a) k.slips ∙ sym q.slips;
-        watched = subst (λ z. On (account_by m₀.cards p.account a) (λ u. Watched u z d)) (sym q.shelf) w;
+        watched = subst (λ z. On (account_by m₀.cards p.account a) (λ u. Watched u z d.books)) (sym q.shelf) w;
       } in (
         lawful_more m₀.cards nothing_yet cs rs c a l (subst (λ zs. AnswersTo zs c a) (sym k.slips) q.answers) y,
-        subst (λ z. Stands m₀.cards z n d ys) (sym (told_more m₀.cards nothing_yet rs a)) next,
+        subst (λ z. Stands m₀.cards z n d) (sym (told_more m₀.cards nothing_yet rs a)) next,
       )
 
   pub session_lawful : (cs : List Command) (rs : List Answer) (n : Meaning) → DoneExactly m₀ b₀ cs rs n → SessionLaw m₀ cs rs n
@@ -132,9 +131,9 @@ module _ (m₀ : Meaning) (b₀ : State) where
       let (l, k) = ran_lawful h.ran in
       record { lawful = l; ends = go (told m₀.cards nothing_yet rs).account k.watched }
     where
-      go : (o : Option Account) → On o (λ u. Watched u n h.books) → On o (Ends n)
+      go : (o : Option Account) → On o (λ u. Watched u n h.held.books) → On o (Ends n)
       go None w = tt
-      go (Some a) w = let u = upheld a n h.books w in record { shelf = u.shelf; stamps = u.stamps; isolated = u.isolated }
+      go (Some a) w = let u = upheld a n h.held.books w in record { shelf = u.shelf; stamps = u.stamps; isolated = u.isolated }
 
   pub all_lawful : {X Y : Type 0} (items : X → List Answer) (cs : List Command) (n : Meaning) (r : Result X Y)
       → IfOk r (λ v. DoneExactly m₀ b₀ cs (items v) n) → IfOk r (λ v. SessionLaw m₀ cs (items v) n)

@@ -21,8 +21,11 @@ use Rattle.sessions.specs.declared.answer.Answer.TheVariants as answers
 use Rattle.sessions.specs.declared.command.Command.TheVariants as commands
 use Rattle.sessions.specs.Slips.{holds, without, with_back, with_returned, slip_for, call_slips}
 use Rattle.sessions.specs.Scripts.{WithSlip, OfSetUp}
-use Rattle.sessions.specs.Exactly.{Replied}
+use Rattle.sessions.specs.Exactly.{Held, Replied}
 use Rattle.sessions.proofs.Holding.{none_taken}
+
+abbrev holding : State → List Slip → Held
+holding b xs = record { books = b; slips = xs }
 
 in_hand : (xs : List Slip) (t : TxNo) (a : Answer) (P : Type 0) → holds xs t.0 ≡ true → P → WithSlip xs t a P
 in_hand xs t a P h p = subst (λ b. cond b P (a ≡ answers.NoSlip)) (sym h) p
@@ -31,7 +34,7 @@ wanting : (xs : List Slip) (t : TxNo) (P : Type 0) → holds xs t.0 ≡ false �
 wanting xs t P h = subst (λ b. cond b P (answers.NoSlip ≡ answers.NoSlip)) (sym h) refl
 
 pub set_up_replied : (m : Meaning) (b c : State) (xs : List Slip) (r : Result (Unit {0}) Refusal) → length xs ≡ 0 → r ≡ set_up_answer b m
-    → c ≡ after_set_up b m → Replied m b xs commands.SetUp (answers.SetUp r) m c xs
+    → c ≡ after_set_up b m → Replied m (holding b xs) commands.SetUp (answers.SetUp r) m (holding c xs)
 set_up_replied m b c xs r e f g = record { answers = go xs e; exact = f; shelf = refl; books = g; slips = refl }
   where
     go : (ys : List Slip) → length ys ≡ 0 → OfSetUp ys (answers.SetUp r)
@@ -40,7 +43,7 @@ set_up_replied m b c xs r e f g = record { answers = go xs e; exact = f; shelf =
 
 pub read_replied : (m : Meaning) (b c : State) (xs : List Slip) (t s : TxNo) (x : CardNo) (r : Result Reading Refusal) → holds xs t.0 ≡ true
     → s ≡ t → r ≡ read_answer b m s.0 x.0 → c ≡ after_read b m s.0 x.0
-    → Replied m b xs (commands.Read t x) (answers.Call (events.Read t x r)) m c xs
+    → Replied m (holding b xs) (commands.Read t x) (answers.Call (events.Read t x r)) m (holding c xs)
 read_replied m b c xs t s x r h e f g = record {
   answers = in_hand xs t (answers.Call (events.Read t x r)) _ h (r, refl);
   exact = f ∙ ap (λ (z : TxNo). read_answer b m z.0 x.0) e;
@@ -51,7 +54,7 @@ read_replied m b c xs t s x r h e f g = record {
 
 pub draft_replied : (m : Meaning) (b c : State) (xs : List Slip) (t s : TxNo) (x : CardNo) (v : Value) (r : Result (Unit {0}) Refusal)
     → holds xs t.0 ≡ true → s ≡ t → r ≡ draft_answer b s.0 x.0 → c ≡ after_draft b s.0 x.0 v
-    → Replied m b xs (commands.Draft t x v) (answers.Call (events.Draft t x v r)) m c xs
+    → Replied m (holding b xs) (commands.Draft t x v) (answers.Call (events.Draft t x v r)) m (holding c xs)
 draft_replied m b c xs t s x v r h e f g = record {
   answers = in_hand xs t (answers.Call (events.Draft t x v r)) _ h (r, refl);
   exact = f ∙ ap (λ (z : TxNo). draft_answer b z.0 x.0) e;
@@ -62,12 +65,12 @@ draft_replied m b c xs t s x v r h e f g = record {
 
 -- a commit or an abandon without its slip
 pub no_commit : (m : Meaning) (b : State) (xs ys : List Slip) (t : TxNo) → holds xs t.0 ≡ false → ys ≡ without xs t.0
-    → Replied m b xs (commands.Commit t) answers.NoSlip m b ys
+    → Replied m (holding b xs) (commands.Commit t) answers.NoSlip m (holding b ys)
 no_commit m b xs ys t h e =
     record { answers = wanting xs t _ h; exact = tt; shelf = refl; books = refl; slips = e ∙ none_taken xs t.0 h }
 
 pub no_abandon : (m : Meaning) (b : State) (xs ys : List Slip) (t : TxNo) → holds xs t.0 ≡ false → ys ≡ without xs t.0
-    → Replied m b xs (commands.Abandon t) answers.NoSlip m b ys
+    → Replied m (holding b xs) (commands.Abandon t) answers.NoSlip m (holding b ys)
 no_abandon m b xs ys t h e =
     record { answers = wanting xs t _ h; exact = tt; shelf = refl; books = refl; slips = e ∙ none_taken xs t.0 h }
 
@@ -86,7 +89,7 @@ returned xs t s (Err f) e = go (ends_by f)
 pub commit_replied : (m n : Meaning) (b c : State) (xs ys zs : List Slip) (t : TxNo) (s : Slip) (q : Result (Unit {0}) NotCommitted)
     (r : Result (Unit {0}) Refusal) → holds xs t.0 ≡ true → s.number ≡ t → zs ≡ without xs t.0
     → q ≡ handed s (commit_answer b m s.number.0) → n ≡ commit_shelf b m s.number.0 → c ≡ commit_books b m s.number.0
-    → r ≡ decision q → ys ≡ with_returned zs q → Replied m b xs (commands.Commit t) (answers.Call (events.Commit t r)) n c ys
+    → r ≡ decision q → ys ≡ with_returned zs q → Replied m (holding b xs) (commands.Commit t) (answers.Call (events.Commit t r)) n (holding c ys)
 commit_replied m n b c xs ys zs t s q r h e w f g k d p =
     let exact : r ≡ commit_answer b m s.number.0 = d ∙ ap decision f ∙ decided s (commit_answer b m s.number.0) in
     record {

@@ -2,9 +2,10 @@
 --     Exact m b a                 the answer a is the one defined on the shelf m, with the books b
 --     shelf_after m b a           the shelf that is left then
 --     BooksAfter m b a c         c are the books that are left then; which free place an open takes is left open
---     Replied m b xs c a n d ys   the command c, with the slips xs in hand, is answered a exactly, and leaves the shelf n, the books d and the slips ys
---     Ran m₀ b₀ cs rs m b xs      the commands cs, each answered exactly, as rs, lead from the shelf m₀ and the books b₀ to m, b and the slips xs;
---                                 every shelf on the way keeps the laws of shelves
+--     Held                        what a session holds: the books' meaning, and the slips in hand
+--     Replied m h c a n k         the command c is answered a exactly, on the shelf m by a session that holds h, and leaves the shelf n and k
+--     Ran m₀ b₀ cs rs m h         the commands cs, each answered exactly, as rs, lead from the shelf m₀ and the books b₀ to m and h; every shelf
+--                                 on the way keeps the laws of shelves
 --     DoneExactly m b cs rs n    they lead from the shelf m and the books b to the shelf n
 use Rattle.std.specs.Prelude.{◌≡◌, List, [], ◌∷◌, ◌++◌, vec_items}
 use Rattle.std.specs.Option.{option_map}
@@ -76,20 +77,22 @@ BooksAfter m b (answers.Versions x r) c = c ≡ b
 BooksAfter m b (answers.Stamp x k r) c = c ≡ b
 BooksAfter m b (answers.Journal ls) c = c ≡ b
 
-pub record Replied (m : Meaning) (b : State) (xs : List Slip) (c : Command) (a : Answer) (n : Meaning) (d : State) (ys : List Slip) : Type 0 where
-  pub answers : AnswersTo xs c a
-  pub exact : Exact m b a
-  pub shelf : n ≡ shelf_after m b a
-  pub books : BooksAfter m b a d
-  pub slips : ys ≡ slips_after xs a
-
-pub data Ran (m₀ : Meaning) (b₀ : State) : List Command → List Answer → Meaning → State → List Slip → Type 0 where
-  begun : Ran m₀ b₀ [] [] m₀ b₀ []
-  goes_on : {cs : List Command} {rs : List Answer} {m : Meaning} {b : State} {xs : List Slip} → Ran m₀ b₀ cs rs m b xs → Sound m
-      → (c : Command) (a : Answer) (n : Meaning) (d : State) (ys : List Slip) → Replied m b xs c a n d ys
-      → Ran m₀ b₀ (cs ++ (c ∷ [])) (rs ++ (a ∷ [])) n d ys
-
-pub record DoneExactly (m : Meaning) (b : State) (cs : List Command) (rs : List Answer) (n : Meaning) : Type 0 where
+pub record Held : Type 0 where
   pub books : State
   pub slips : List Slip
-  pub ran : Ran m b cs rs n books slips
+
+pub record Replied (m : Meaning) (h : Held) (c : Command) (a : Answer) (n : Meaning) (k : Held) : Type 0 where
+  pub answers : AnswersTo h.slips c a
+  pub exact : Exact m h.books a
+  pub shelf : n ≡ shelf_after m h.books a
+  pub books : BooksAfter m h.books a k.books
+  pub slips : k.slips ≡ slips_after h.slips a
+
+pub data Ran (m₀ : Meaning) (b₀ : State) : List Command → List Answer → Meaning → Held → Type 0 where
+  begun : Ran m₀ b₀ [] [] m₀ (record { books = b₀; slips = [] })
+  goes_on : {cs : List Command} {rs : List Answer} {m : Meaning} {h : Held} → Ran m₀ b₀ cs rs m h → Sound m
+      → (c : Command) (a : Answer) (n : Meaning) (k : Held) → Replied m h c a n k → Ran m₀ b₀ (cs ++ (c ∷ [])) (rs ++ (a ∷ [])) n k
+
+pub record DoneExactly (m : Meaning) (b : State) (cs : List Command) (rs : List Answer) (n : Meaning) : Type 0 where
+  pub held : Held
+  pub ran : Ran m b cs rs n held

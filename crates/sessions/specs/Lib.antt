@@ -3,3 +3,4 @@ pub mod Scripts
 pub mod Laws
 pub mod Exactly
 pub mod Files
+pub mod Holding

@@ -1,8 +1,8 @@
 // The books of a session and the slips in hand: each command is answered by one call, or by what is asked of the shelf.
-ghost use Rattle.std.specs.Prelude.{◌≡◌, List, [], IfOk};
+ghost use Rattle.std.specs.Prelude.{◌≡◌, [], IfOk};
 ghost use Rattle.books.specs.States.{sizes_of, new_state};
-ghost use Rattle.catalogue.specs.Kept.{kept};
 ghost use Rattle.sessions.specs.Exactly.{Replied};
+ghost use Rattle.sessions.specs.Holding.{held};
 ghost use Rattle.sessions.specs.declared.command.Command.TheVariants as commands;
 
 use crate::answer::Answer;
@@ -23,8 +23,7 @@ pub(crate) struct Session {
 impl Session {
     // Books that are not set up yet, and no slip in hand.
     pub(crate) fn new(heap: Global, memory: BooksMemory) -> Session
-        ensures books { kept result.catalogue ≡ new_state (sizes_of memory) }
-        ensures slips { result.slips.items ≡ [] }
+        ensures { held result ≡ record { books = new_state (sizes_of memory); slips = [] } }
     {
         Session {
             catalogue: Catalogue::new(memory),
@@ -33,7 +32,7 @@ impl Session {
     }
 
     fn set_up<S: Shelf>(&mut self, shelf: &S) -> Answer
-        ensures { Replied (S.meaning shelf.now) (kept self.old.catalogue) self.old.slips.items commands.SetUp result (S.meaning shelf.now) (kept self.new.catalogue) self.new.slips.items }
+        ensures { Replied (S.meaning shelf.now) (held self.old) commands.SetUp result (S.meaning shelf.now) (held self.new) }
     {
         if !self.slips.is_empty() {
             return Answer::SlipsHeld;
@@ -41,8 +40,9 @@ impl Session {
         Answer::SetUp(self.catalogue.set_up(shelf))
     }
 
+    // A slip that is given is kept.
     fn open<S: Shelf>(&mut self, shelf: &S) -> Result<Answer, AllocError>
-        ensures { IfOk result (λ a. Replied (S.meaning shelf.now) (kept self.old.catalogue) self.old.slips.items commands.Open a (S.meaning shelf.now) (kept self.new.catalogue) self.new.slips.items) }
+        ensures { IfOk result (λ a. Replied (S.meaning shelf.now) (held self.old) commands.Open a (S.meaning shelf.now) (held self.new)) }
     {
         self.slips.reserve(1)?;
         match self.catalogue.open() {
@@ -56,7 +56,7 @@ impl Session {
     }
 
     fn read<S: Shelf>(&mut self, shelf: &S, number: TxNo, card: CardNo) -> Answer
-        ensures { Replied (S.meaning shelf.now) (kept self.old.catalogue) self.old.slips.items (commands.Read number card) result (S.meaning shelf.now) (kept self.new.catalogue) self.new.slips.items }
+        ensures { Replied (S.meaning shelf.now) (held self.old) (commands.Read number card) result (S.meaning shelf.now) (held self.new) }
     {
         let Some(slip) = slip_of(&self.slips, number) else {
             return Answer::NoSlip;
@@ -66,7 +66,7 @@ impl Session {
     }
 
     fn draft<S: Shelf>(&mut self, shelf: &S, number: TxNo, card: CardNo, value: Value) -> Answer
-        ensures { Replied (S.meaning shelf.now) (kept self.old.catalogue) self.old.slips.items (commands.Draft number card value) result (S.meaning shelf.now) (kept self.new.catalogue) self.new.slips.items }
+        ensures { Replied (S.meaning shelf.now) (held self.old) (commands.Draft number card value) result (S.meaning shelf.now) (held self.new) }
     {
         let Some(slip) = slip_of(&self.slips, number) else {
             return Answer::NoSlip;
@@ -77,7 +77,7 @@ impl Session {
 
     // A slip that is handed back is kept.
     fn commit<S: Shelf>(&mut self, shelf: &mut S, number: TxNo) -> Answer
-        ensures { Replied (S.meaning shelf.old) (kept self.old.catalogue) self.old.slips.items (commands.Commit number) result (S.meaning shelf.new) (kept self.new.catalogue) self.new.slips.items }
+        ensures { Replied (S.meaning shelf.old) (held self.old) (commands.Commit number) result (S.meaning shelf.new) (held self.new) }
     {
         let Some(slip) = take_slip(&mut self.slips, number) else {
             return Answer::NoSlip;
@@ -88,7 +88,7 @@ impl Session {
     }
 
     fn abandon<S: Shelf>(&mut self, shelf: &S, number: TxNo) -> Answer
-        ensures { Replied (S.meaning shelf.now) (kept self.old.catalogue) self.old.slips.items (commands.Abandon number) result (S.meaning shelf.now) (kept self.new.catalogue) self.new.slips.items }
+        ensures { Replied (S.meaning shelf.now) (held self.old) (commands.Abandon number) result (S.meaning shelf.now) (held self.new) }
     {
         let Some(slip) = take_slip(&mut self.slips, number) else {
             return Answer::NoSlip;
@@ -99,14 +99,14 @@ impl Session {
 
     // The slips are kept, and are no longer open.
     fn close<S: Shelf>(&mut self, shelf: &S) -> Answer
-        ensures { Replied (S.meaning shelf.now) (kept self.old.catalogue) self.old.slips.items commands.Close result (S.meaning shelf.now) (kept self.new.catalogue) self.new.slips.items }
+        ensures { Replied (S.meaning shelf.now) (held self.old) commands.Close result (S.meaning shelf.now) (held self.new) }
     {
         self.catalogue.close();
         Answer::Call(Event::Close)
     }
 
     fn journal<S: Shelf>(&self, heap: Global, shelf: &S) -> Result<Answer, AllocError>
-        ensures { IfOk result (λ a. Replied (S.meaning shelf.now) (kept self.now.catalogue) self.now.slips.items commands.Journal a (S.meaning shelf.now) (kept self.now.catalogue) self.now.slips.items) }
+        ensures { IfOk result (λ a. Replied (S.meaning shelf.now) (held self.now) commands.Journal a (S.meaning shelf.now) (held self.now)) }
     {
         let lines = Vec::from_slice(heap, self.catalogue.journal())?;
         Ok(Answer::Journal(lines))
@@ -119,7 +119,7 @@ impl Session {
         shelf: &mut S,
         command: Command,
     ) -> Result<Answer, AllocError>
-        ensures { IfOk result (λ a. Replied (S.meaning shelf.old) (kept self.old.catalogue) self.old.slips.items command a (S.meaning shelf.new) (kept self.new.catalogue) self.new.slips.items) }
+        ensures { IfOk result (λ a. Replied (S.meaning shelf.old) (held self.old) command a (S.meaning shelf.new) (held self.new)) }
     {
         match command {
             Command::SetUp => Ok(self.set_up(shelf)),

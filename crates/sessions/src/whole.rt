@@ -1,8 +1,8 @@
 // A whole session.
 ghost use Rattle.std.specs.Prelude.{◌≡◌, [], IfOk};
 ghost use Rattle.books.specs.States.{sizes_of, new_state};
-ghost use Rattle.catalogue.specs.Kept.{kept};
 ghost use Rattle.sessions.specs.Exactly.{Ran, DoneExactly};
+ghost use Rattle.sessions.specs.Holding.{held};
 ghost use Rattle.sessions.specs.Laws.{SessionLaw};
 
 use crate::answer::Answer;
@@ -36,9 +36,10 @@ fn answer_all<S: Shelf>(
     shelf: &mut S,
     script: &[Command],
 ) -> Result<Vec<Answer>, AllocError>
-    requires { session.old.slips.items ≡ [] }
-    ensures { IfOk result (λ v. Ran (S.meaning shelf.old) (kept session.old.catalogue) script.now v.items (S.meaning shelf.new) (kept session.new.catalogue) session.new.slips.items) }
+    requires { (held session.old).slips ≡ [] }
+    ensures { IfOk result (λ v. Ran (S.meaning shelf.old) (held session.old).books script.now v.items (S.meaning shelf.new) (held session.new)) }
 {
+    // a `for`, since a chain's closure would change the session and the shelf, of which no proof would know what they became
     let mut answers = Vec::new(heap);
     for command in script {
         let answer = session.answer(heap, shelf, *command)?;

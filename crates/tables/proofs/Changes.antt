@@ -35,40 +35,40 @@ module _ (cards p : ℕ) (rs rs' : List ReadEntry) (ds ds' : List DraftEntry)
 
 -- the place p of t now has the entry e, and rows of rs' and ds'
 module _ (t : OpenTable) (p : ℕ) (low : p < t.used) (e : Option Taken) (rs' : List ReadEntry) (ds' : List DraftEntry)
-    (reads : Others t.cards p (vec_items t.reads) rs') (drafts : Others most_drafts p (vec_items t.drafts) ds') where
-  kept_few : (q : ℕ) → q < t.used → few t.cards (entry_at t q) ≡ true
+    (reads : Others t.reads.width p (vec_items t.reads.items) rs') (drafts : Others most_drafts p (vec_items t.drafts.items) ds') where
+  kept_few : (q : ℕ) → q < t.used → few t.reads.width (entry_at t q) ≡ true
   kept_few q h =
-      (and_parts (few t.cards (entry_at t q)) (neat t.cards (stands t.cards (vec_items t.reads) (vec_items t.drafts) q (entry_at t q))) (t.kept q h)).0
+      (and_parts (few t.reads.width (entry_at t q)) (neat t.reads.width (stands t.reads.width (vec_items t.reads.items) (vec_items t.drafts.items) q (entry_at t q))) (t.kept q h)).0
 
-  pub list_changed : each (stands t.cards rs' ds') 0 (take t.used (set (vec_items t.places) p e))
-      ≡ set (list_of t) p (stands t.cards rs' ds' p e)
+  pub list_changed : each (stands t.reads.width rs' ds') 0 (take t.used (set (vec_items t.places) p e))
+      ≡ set (list_of t) p (stands t.reads.width rs' ds' p e)
   list_changed =
       let ps = take t.used (vec_items t.places) in
       let size = length-take-le t.used (vec_items t.places) (omega (arith, t.listed, t.places.ok.0)) in
       let at : 0 + p ≡ p = omega arith in
-      let f = stands t.cards (vec_items t.reads) (vec_items t.drafts) in
-      let g = stands t.cards rs' ds' in
+      let f = stands t.reads.width (vec_items t.reads.items) (vec_items t.drafts.items) in
+      let g = stands t.reads.width rs' ds' in
       ap (each g 0) (take_set_inside t.used p (vec_items t.places) e)
       ∙ each_set f g 0 p ps e None (omega (arith, size))
       (λ j (h : j < length ps) ne.
       let zero : 0 + j ≡ j = omega arith in
       let here = get_or-take t.used (vec_items t.places) j None (omega (arith, size)) in
-      let same = stands_other t.cards p (vec_items t.reads) rs' (vec_items t.drafts) ds' reads drafts j (entry_at t j) ne (kept_few j (omega (arith, size))) in
+      let same = stands_other t.reads.width p (vec_items t.reads.items) rs' (vec_items t.drafts.items) ds' reads drafts j (entry_at t j) ne (kept_few j (omega (arith, size))) in
       ap (λ k. g k (get_or ps j None)) zero ∙ ap (g j) here ∙ same ∙ ap (f j) (sym here) ∙ ap (λ k. f k (get_or ps j None)) (sym zero))
       ∙ ap (λ k. set (list_of t) p (g k e)) at
 
-  pub kept_changed : kept_at t.cards rs' ds' p e ≡ true →
-      (q : ℕ) → q < t.used → kept_at t.cards rs' ds' q (get_or (set (vec_items t.places) p e) q None) ≡ true
+  pub kept_changed : kept_at t.reads.width rs' ds' p e ≡ true →
+      (q : ℕ) → q < t.used → kept_at t.reads.width rs' ds' q (get_or (set (vec_items t.places) p e) q None) ≡ true
   kept_changed new q h =
       ⊎_elim
       (λ (same : q ≡ p).
       let here = get_or-set_same (vec_items t.places) p e None (omega (arith, t.listed, t.places.ok.0)) in
-      ap (λ k. kept_at t.cards rs' ds' k (get_or (set (vec_items t.places) p e) k None)) same
-      ∙ ap (kept_at t.cards rs' ds' p) here ∙ new)
+      ap (λ k. kept_at t.reads.width rs' ds' k (get_or (set (vec_items t.places) p e) k None)) same
+      ∙ ap (kept_at t.reads.width rs' ds' p) here ∙ new)
       (λ (ne : q ≡ p → ⊥).
       let there = get_or-set_other (vec_items t.places) p q e None ne in
-      let same = stands_other t.cards p (vec_items t.reads) rs' (vec_items t.drafts) ds' reads drafts q (entry_at t q) ne (kept_few q h) in
-      ap (kept_at t.cards rs' ds' q) there ∙ ap (λ o. few t.cards (entry_at t q) && neat t.cards o) same ∙ t.kept q h)
+      let same = stands_other t.reads.width p (vec_items t.reads.items) rs' (vec_items t.drafts.items) ds' reads drafts q (entry_at t q) ne (kept_few q h) in
+      ap (kept_at t.reads.width rs' ds' q) there ∙ ap (λ o. few t.reads.width (entry_at t q) && neat t.reads.width o) same ∙ t.kept q h)
       (cases_eq q p)
 
 pub stands_new : (cards : ℕ) (rs : List ReadEntry) (ds : List DraftEntry) (p : ℕ) (n : TxNo) →

@@ -14,26 +14,26 @@ use Rattle.tables.proofs.Rows.{rows_apart}
 
 pub length_list : (t : OpenTable) → length (list_of t) ≡ t.used
 length_list t =
-    length_each (stands t.cards (vec_items t.reads) (vec_items t.drafts)) 0 (take t.used (vec_items t.places))
+    length_each (stands t.reads.width (vec_items t.reads.items) (vec_items t.drafts.items)) 0 (take t.used (vec_items t.places))
     ∙ length-take-le t.used (vec_items t.places) (omega (arith, t.listed, t.places.ok.0))
 
 abbrev pub stands_in : OpenTable → ℕ → Option Taken → Option Open
-stands_in t p e = stands t.cards (vec_items t.reads) (vec_items t.drafts) p e
+stands_in t p e = stands t.reads.width (vec_items t.reads.items) (vec_items t.drafts.items) p e
 
 pub nth_list : (t : OpenTable) (p : ℕ) → p < t.used → slice_get (list_of t) p ≡ Some (stands_in t p (entry_at t p))
 nth_list t p h =
     let ps = take t.used (vec_items t.places) in
     let n = length-take-le t.used (vec_items t.places) (omega (arith, t.listed, t.places.ok.0)) in
     let e : 0 + p ≡ p = omega arith in
-    nth_each (stands t.cards (vec_items t.reads) (vec_items t.drafts)) 0 p ps None (omega (arith, n))
+    nth_each (stands t.reads.width (vec_items t.reads.items) (vec_items t.drafts.items)) 0 p ps None (omega (arith, n))
     ∙ ap (λ j. Some (stands_in t j (get_or ps p None))) e
     ∙ ap (λ x. Some (stands_in t p x)) (get_or-take t.used (vec_items t.places) p None h)
 
 -- the places in use have rows
-pub reads_end : (t : OpenTable) (p n : ℕ) → p < t.used → n ≤ t.cards → p * t.cards + n ≤ vec_len t.reads
-reads_end t p n h few = omega (arith, t.read, rows_apart t.cards t.used p h)
+pub reads_end : (t : OpenTable) (p n : ℕ) → p < t.used → n ≤ t.reads.width → p * t.reads.width + n ≤ vec_len t.reads.items
+reads_end t p n h few = omega (arith, t.read, rows_apart t.reads.width t.used p h)
 
-pub drafts_end : (t : OpenTable) (p n : ℕ) → p < t.used → n ≤ 32 → p * 32 + n ≤ vec_len t.drafts
+pub drafts_end : (t : OpenTable) (p n : ℕ) → p < t.used → n ≤ 32 → p * 32 + n ≤ vec_len t.drafts.items
 drafts_end t p n h few = omega (arith, t.drafted)
 
 pub at_open : (t : OpenTable) (p : ℕ) (k : Taken) → p < t.used → entry_at t p ≡ Some k →
@@ -73,12 +73,12 @@ open_there t p h = go (entry_at t p) refl
     go (Some k) e = (k, e)
 
 pub kept_open : (t : OpenTable) (p : ℕ) (k : Taken) → p < t.used → entry_at t p ≡ Some k →
-    (k.reads ≤ t.cards) × (k.drafts ≤ 32) × (neat t.cards (stands_in t p (Some k)) ≡ true)
+    (k.reads ≤ t.reads.width) × (k.drafts ≤ 32) × (neat t.reads.width (stands_in t p (Some k)) ≡ true)
 kept_open t p k h e =
-    let whole = ap (kept_at t.cards (vec_items t.reads) (vec_items t.drafts) p) (sym e) ∙ t.kept p h in
-    let parts = and_parts (few t.cards (Some k)) (neat t.cards (stands_in t p (Some k))) whole in
-    let sizes = and_parts (leb k.reads t.cards) (leb k.drafts 32) parts.0 in
-    (leb-true k.reads t.cards sizes.0, leb-true k.drafts 32 sizes.1, parts.1)
+    let whole = ap (kept_at t.reads.width (vec_items t.reads.items) (vec_items t.drafts.items) p) (sym e) ∙ t.kept p h in
+    let parts = and_parts (few t.reads.width (Some k)) (neat t.reads.width (stands_in t p (Some k))) whole in
+    let sizes = and_parts (leb k.reads t.reads.width) (leb k.drafts 32) parts.0 in
+    (leb-true k.reads t.reads.width sizes.0, leb-true k.drafts 32 sizes.1, parts.1)
 
 -- an entry that was read
 pub entry_read : (t : OpenTable) (p : ℕ) → p < t.used → (x : Option Taken) → x ≡ get_or (vec_items t.places) p x → entry_at t p ≡ x

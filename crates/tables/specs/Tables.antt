@@ -27,15 +27,15 @@ pub record Table : Type 0 where
   pub list : List (Option Open)
 
 abbrev pub list_of : OpenTable → List (Option Open)
-list_of t = each (stands t.cards (vec_items t.reads) (vec_items t.drafts)) 0 (take t.used (vec_items t.places))
+list_of t = each (stands t.reads.width (vec_items t.reads.items) (vec_items t.drafts.items)) 0 (take t.used (vec_items t.places))
 
 abbrev pub table_of : OpenTable → Table
 table_of t =
     record {
       places_size = vec_len t.places;
-      reads_size = vec_len t.reads;
-      drafts_size = vec_len t.drafts;
-      cards = t.cards;
+      reads_size = vec_len t.reads.items;
+      drafts_size = vec_len t.drafts.items;
+      cards = t.reads.width;
       list = list_of t;
     }
 

@@ -2,10 +2,12 @@
 ghost use Rattle.std.specs.Prelude.{◌≡◌, ℕ, ◌*◌, ◌<◌, ◌≤◌, true, None, vec_len, slice_index_or};
 ghost use Rattle.tables.specs.Rows.{kept_at};
 
+use crate::table::rows::Rows;
 use entries::{DraftEntry, OpenPlace, ReadEntry};
 
 mod answers;
 mod changes;
+mod rows;
 
 // How many open places are used, at the most.
 pub(crate) const PLACES: usize = 16;
@@ -17,14 +19,14 @@ pub const DRAFTS: usize = 32;
 #[derive(Drop)]
 pub struct OpenTable {
     places: Vec<OpenPlace>,
-    reads: Vec<ReadEntry>,
-    drafts: Vec<DraftEntry>,
+    // As wide as there were cards at set-up.
+    reads: Rows<ReadEntry>,
+    drafts: Rows<DraftEntry>,
     // How many places are in use: none before set-up.
     used: usize,
-    // How many cards there were at set-up.
-    cards: usize,
     ghost listed: { used ≤ vec_len places },
-    ghost read: { used * cards ≤ vec_len reads },
-    ghost drafted: { used * 32 ≤ vec_len drafts },
-    ghost kept: { (p : ℕ) → p < used → kept_at cards reads.items drafts.items p (slice_index_or places.items p None) ≡ true },
+    ghost read: { used * reads.width ≤ vec_len reads.items },
+    ghost wide: { drafts.width ≡ 32 },
+    ghost drafted: { used * 32 ≤ vec_len drafts.items },
+    ghost kept: { (p : ℕ) → p < used → kept_at reads.width reads.items.items drafts.items.items p (slice_index_or places.items p None) ≡ true },
 }

@@ -102,7 +102,7 @@ impl Books {
     }
 }
 
-// Spends the slip, or hands it back.
+// Spends the slip, or hands it back: an arm for each answer, since the slip, which none may drop, goes another way in each.
 fn hand_in(slip: Slip, settled: Result<(), Refusal>) -> Result<(), NotCommitted>
     ensures { result ≡ handed slip settled }
 {

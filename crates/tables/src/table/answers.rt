@@ -8,9 +8,9 @@ ghost use Rattle.isolation.specs.Account.{draft_of};
 ghost use Rattle.transactions.specs.Calls.{all_taken};
 ghost use Rattle.transactions.specs.Choosing.{version_read};
 ghost use Rattle.entries.specs.Contents.{reading, drafting};
-ghost use Rattle.tables.specs.Rows.{row};
 ghost use Rattle.tables.specs.Tables.{table_of, enough, list_of, entry_at, at, taken as takes};
 
+use crate::table::rows::Rows;
 use crate::table::{DRAFTS, OpenTable, PLACES};
 use entries::{DraftEntry, OpenPlace, ReadEntry, Taken, last_entry, last_with};
 use stamps::{CardNo, TxNo, Value, VersionNo};
@@ -22,10 +22,15 @@ impl OpenTable {
     {
         OpenTable {
             places,
-            reads,
-            drafts,
+            reads: Rows {
+                items: reads,
+                width: 0,
+            },
+            drafts: Rows {
+                items: drafts,
+                width: DRAFTS,
+            },
             used: 0,
-            cards: 0,
         }
     }
 
@@ -35,15 +40,15 @@ impl OpenTable {
     {
         let places = self.places.len().min(PLACES);
         places > 0
-            && places * cards as usize <= self.reads.len()
-            && places * DRAFTS <= self.drafts.len()
+            && places * cards as usize <= self.reads.items.len()
+            && places * DRAFTS <= self.drafts.items.len()
     }
 
     // How many cards there were at set-up.
     pub fn cards(&self) -> usize
         ensures { result ≡ (table_of self.now).cards }
     {
-        self.cards
+        self.reads.width
     }
 
     // The places in use.
@@ -81,7 +86,7 @@ impl OpenTable {
         let Some(taken) = self.taken(place) else {
             return &[];
         };
-        row_of(&self.reads, self.cards, place, taken.reads)
+        self.reads.first(place, taken.reads)
     }
 
     // Its drafts.
@@ -91,7 +96,7 @@ impl OpenTable {
         let Some(taken) = self.taken(place) else {
             return &[];
         };
-        row_of(&self.drafts, DRAFTS, place, taken.drafts)
+        self.drafts.first(place, taken.drafts)
     }
 
     // The version in which it has read a card.
@@ -107,13 +112,4 @@ impl OpenTable {
     {
         last_entry(self.drafts_at(place), card.0).map(|entry| entry.value)
     }
-}
-
-// The first entries of a place's row, where each row has `len` entries.
-fn row_of<T>(table: &[T], len: usize, place: usize, count: usize) -> &[T]
-    requires { place * len + count ≤ length table.now }
-    ensures { result.now ≡ row len place count table.now }
-{
-    let from = place * len;
-    &table[from..from + count]
 }

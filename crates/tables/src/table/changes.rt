@@ -5,7 +5,7 @@ ghost use Rattle.transactions.specs.declared.refusal.Refusal.TheVariants as refu
 ghost use Rattle.entries.specs.Contents.{draft_cards};
 ghost use Rattle.tables.specs.Tables.{list_of, table_of, at, taken as takes, with_list, with_place, read_more, draft_set, enough, laid_out};
 
-use crate::table::{DRAFTS, OpenTable, PLACES};
+use crate::table::{OpenTable, PLACES};
 use entries::{DraftEntry, ReadEntry, Taken, last_with};
 use stamps::TxNo;
 use transactions::Refusal;
@@ -43,7 +43,7 @@ impl OpenTable {
         let Some(taken) = self.taken(place) else {
             return;
         };
-        self.reads[place * self.cards + taken.reads] = entry;
+        self.reads.enter(place, taken.reads, entry);
         self.places[place] = Some(Taken {
             reads: taken.reads + 1,
             ..taken
@@ -70,7 +70,7 @@ impl OpenTable {
         requires same { slice_index (draft_cards (at (list_of self.old) place).drafts) nth ≡ draft.card.0 }
         ensures { table_of self.new ≡ with_place (table_of self.old) place (Some (draft_set (at (list_of self.old) place) draft.card.0 draft.value)) }
     {
-        self.drafts[place * DRAFTS + nth] = draft;
+        self.drafts.enter(place, nth, draft);
     }
 
     // Adds the draft of a card that has none.
@@ -84,7 +84,7 @@ impl OpenTable {
         let Some(taken) = self.taken(place) else {
             return;
         };
-        self.drafts[place * DRAFTS + taken.drafts] = draft;
+        self.drafts.enter(place, taken.drafts, draft);
         self.places[place] = Some(Taken {
             drafts: taken.drafts + 1,
             ..taken
@@ -104,8 +104,8 @@ impl OpenTable {
     // Takes one more place into use, a free one.
     fn add_place(&mut self)
         requires listed { self.old.used < vec_len self.old.places }
-        requires read { suc self.old.used * self.old.cards ≤ vec_len self.old.reads }
-        requires drafted { suc self.old.used * 32 ≤ vec_len self.old.drafts }
+        requires read { suc self.old.used * self.old.reads.width ≤ vec_len self.old.reads.items }
+        requires drafted { suc self.old.used * 32 ≤ vec_len self.old.drafts.items }
         ensures table { table_of self.new ≡ with_list (table_of self.old) (list_of self.old ++ (None ∷ [])) }
         ensures used { self.new.used ≡ suc self.old.used }
     {
@@ -122,7 +122,7 @@ impl OpenTable {
             return Err(Refusal::ShortBooks);
         }
         self.used = 0;
-        self.cards = cards as usize;
+        self.reads.width = cards as usize;
         for _place in 0..self.places.len().min(PLACES) {
             self.add_place();
         }

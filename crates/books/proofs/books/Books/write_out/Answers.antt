@@ -23,10 +23,10 @@ log_block-requires g c =
     let neat = neat_at t p in
     let rs = c.reads_at-reads.ensures in
     let ds = c.drafts_at-drafts.ensures in
-    let modest : t.cards ≤ room = omega (arith, same_cards b m o passed.0, (g.met.S.Shelf.sound c.args.shelf.now).few) in
+    let modest : t.reads.width ≤ room = omega (arith, same_cards b m o passed.0, (g.met.S.Shelf.sound c.args.shelf.now).few) in
     record {
-      read = ap (λ l. apart room (read_cards l)) rs ∙ apart_wider t.cards room (read_cards o.reads) modest neat.0;
-      drafted = ap (λ l. apart room (draft_cards l)) ds ∙ apart_wider t.cards room (draft_cards o.drafts) modest neat.1;
+      read = ap (λ l. apart room (read_cards l)) rs ∙ apart_wider t.reads.width room (read_cards o.reads) modest neat.0;
+      drafted = ap (λ l. apart room (draft_cards l)) ds ∙ apart_wider t.reads.width room (draft_cards o.drafts) modest neat.1;
       space =
           omega (arith, passed.2, ap length rs, ap length ds, length-map c.reads_at-reads.result.now reading, length-map c.drafts_at-drafts.result.now drafting);
     }
@@ -63,6 +63,6 @@ returns g c =
       shelf = c.put_drafts.ensures ∙ ap (λ q. put_cards m q m.cards) is ∙ ap (put_cards m o) (same_cards b m o passed.0);
       books =
           ap (state_with (table_of t) c.args.self.now.width c.args.self.now.given)
-          (c.log_block.ensures t.cards (ap (λ l. apart t.cards (read_cards l)) rs ∙ neat.0) (ap (λ l. apart t.cards (draft_cards l)) ds ∙ neat.1)
-          ∙ ap (λ q. with_lines (log_of c.args.self.now.journal) (block m q t.cards)) is);
+          (c.log_block.ensures t.reads.width (ap (λ l. apart t.reads.width (read_cards l)) rs ∙ neat.0) (ap (λ l. apart t.reads.width (draft_cards l)) ds ∙ neat.1)
+          ∙ ap (λ q. with_lines (log_of c.args.self.now.journal) (block m q t.reads.width)) is);
     }

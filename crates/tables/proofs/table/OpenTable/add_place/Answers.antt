@@ -9,7 +9,7 @@ pub returns : goal.returns
 returns c =
     let t = c.args.self.now in
     let ps = vec_items t.places in
-    let f = stands t.cards (vec_items t.reads) (vec_items t.drafts) in
+    let f = stands t.reads.width (vec_items t.reads.items) (vec_items t.drafts.items) in
     record {
       table =
           ap (with_list (table_of t))

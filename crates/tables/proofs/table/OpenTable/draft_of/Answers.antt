@@ -13,7 +13,7 @@ returns c = λ v.
     let t = c.args.self.now in
     let es = c.drafts_at.result.now in
     let x = c.args.card.0 in
-    let ok = ap (λ l. apart t.cards (draft_cards l)) c.drafts_at.ensures ∙ (neat_at t c.args.place).1 in
+    let ok = ap (λ l. apart t.reads.width (draft_cards l)) c.drafts_at.ensures ∙ (neat_at t c.args.place).1 in
     let told : c.map.result ≡ option_map (λ e. e.now.value) c.last_entry.result = search rules in
     ap (λ o. unwrap_or o v) (told ∙ seen_once (λ e. e.value) c.last_entry.result ∙ ap (option_map (λ e. e.value)) c.last_entry.ensures)
-    ∙ last_words t.cards es x v ok ∙ ap (λ l. draft_of l x v) c.drafts_at.ensures
+    ∙ last_words t.reads.width es x v ok ∙ ap (λ l. draft_of l x v) c.drafts_at.ensures

@@ -1,18 +1,18 @@
-use Rattle.std.proofs.Common.{map, unwrap_or, sym, ap, ◌∙◌, arith}
+use Rattle.std.proofs.Common.{◌*◌, vec_items, map, unwrap_or, sym, ap, ◌∙◌, arith}
 use Rattle.entries.specs.Contents.{drafting}
 use Rattle.tables.specs.Rows.{row}
 use Rattle.tables.specs.Tables.{nobody}
 use Rattle.tables.proofs.Standing.{taken_low, kept_open, at_is, drafts_end}
 use Rattle.tables.proofs.table.OpenTable.drafts_at.Goals as goal
 
-pub row_of-requires : goal.row_of-requires
-row_of-requires c =
+pub first-requires : goal.first-requires
+first-requires c =
     let t = c.args.self.now in
     let p = c.args.place in
     let there = c.in-Some.ensures in
     let low = taken_low t p there.0 in
     let k = c.in-Some.taken in
-    omega (arith, drafts_end t p k.drafts low (kept_open t p k low there.1).1, c.deref.ensures.len)
+    omega (arith, drafts_end t p k.drafts low (kept_open t p k low there.1).1, ap (λ w. p * w) t.wide)
 
 pub returns : goal.returns
 returns c =
@@ -21,4 +21,4 @@ returns c =
     let there = c.in-Some.ensures in
     let k = c.in-Some.taken in
     let is = at_is t p k (taken_low t p there.0) there.1 in
-    ap (map drafting) (c.row_of.ensures ∙ ap (row 32 p k.drafts) c.deref.ensures.value) ∙ sym (ap (λ o. (unwrap_or o nobody).drafts) is)
+    ap (map drafting) (c.first.ensures ∙ ap (λ w. row w p k.drafts (vec_items t.drafts.items)) t.wide) ∙ sym (ap (λ o. (unwrap_or o nobody).drafts) is)

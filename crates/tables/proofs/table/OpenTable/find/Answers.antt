@@ -10,4 +10,4 @@ returns c =
     let t = c.args.self.now in
     let n = c.args.number.0 in
     c.last_with.ensures ∙ ap (last_at (λ e. sought n (option_and_then (λ t. Some t.number.0) e))) c.in_use.ensures
-    ∙ sym (found_place n t.cards (vec_items t.reads) (vec_items t.drafts) (take t.used (vec_items t.places)))
+    ∙ sym (found_place n t.reads.width (vec_items t.reads.items) (vec_items t.drafts.items) (take t.used (vec_items t.places)))

@@ -8,5 +8,5 @@ pub returns : goal.returns
 returns c =
     let t = c.args.self.now in
     let ps = take t.used (vec_items t.places) in
-    free_found t.cards (vec_items t.reads) (vec_items t.drafts) ps c.rposition.result
+    free_found t.reads.width (vec_items t.reads.items) (vec_items t.drafts.items) ps c.rposition.result
     (last_at_told (λ e. not (is_some e)) ps c.rposition.result (search (rules, chains)))

@@ -1,18 +1,17 @@
 use Rattle.std.proofs.Common.{map, unwrap_or, sym, ap, ◌∙◌, arith}
 use Rattle.entries.specs.Contents.{reading}
-use Rattle.tables.specs.Rows.{row}
 use Rattle.tables.specs.Tables.{nobody}
 use Rattle.tables.proofs.Standing.{taken_low, kept_open, at_is, reads_end}
 use Rattle.tables.proofs.table.OpenTable.reads_at.Goals as goal
 
-pub row_of-requires : goal.row_of-requires
-row_of-requires c =
+pub first-requires : goal.first-requires
+first-requires c =
     let t = c.args.self.now in
     let p = c.args.place in
     let there = c.in-Some.ensures in
     let low = taken_low t p there.0 in
     let k = c.in-Some.taken in
-    omega (arith, reads_end t p k.reads low (kept_open t p k low there.1).0, c.deref.ensures.len)
+    omega (arith, reads_end t p k.reads low (kept_open t p k low there.1).0)
 
 pub returns : goal.returns
 returns c =
@@ -21,4 +20,4 @@ returns c =
     let there = c.in-Some.ensures in
     let k = c.in-Some.taken in
     let is = at_is t p k (taken_low t p there.0) there.1 in
-    ap (map reading) (c.row_of.ensures ∙ ap (row t.cards p k.reads) c.deref.ensures.value) ∙ sym (ap (λ o. (unwrap_or o nobody).reads) is)
+    ap (map reading) c.first.ensures ∙ sym (ap (λ o. (unwrap_or o nobody).reads) is)

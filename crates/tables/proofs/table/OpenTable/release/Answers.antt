@@ -10,8 +10,8 @@ returns-then-place-self c =
     let t = c.args.self.now in
     let p = c.args.place in
     ap (with_list (table_of t))
-    (list_changed t p c.if-place-self.true None (vec_items t.reads) (vec_items t.drafts)
-    (same_rows t.cards p (vec_items t.reads)) (same_rows most_drafts p (vec_items t.drafts)))
+    (list_changed t p c.if-place-self.true None (vec_items t.reads.items) (vec_items t.drafts.items)
+    (same_rows t.reads.width p (vec_items t.reads.items)) (same_rows most_drafts p (vec_items t.drafts.items)))
 
 pub returns-else-place-self : goal.returns-else-place-self
 returns-else-place-self c =

@@ -13,7 +13,7 @@ returns c =
     let t = c.args.self.now in
     let es = c.reads_at.result.now in
     let x = c.args.card.0 in
-    let ok = ap (λ l. apart t.cards (read_cards l)) c.reads_at.ensures ∙ (neat_at t c.args.place).0 in
+    let ok = ap (λ l. apart t.reads.width (read_cards l)) c.reads_at.ensures ∙ (neat_at t c.args.place).0 in
     let told : c.map.result ≡ option_map (λ e. e.now.version) c.last_entry.result = search rules in
     ap (option_map (λ v. v.0)) told ∙ seen_through (λ e. e.version) (λ v. v.0) c.last_entry.result ∙ ap (option_map (λ e. e.version.0)) c.last_entry.ensures
-    ∙ last_version t.cards es x ok ∙ ap (λ l. version_read l x) c.reads_at.ensures
+    ∙ last_version t.reads.width es x ok ∙ ap (λ l. version_read l x) c.reads_at.ensures

@@ -6,8 +6,6 @@ ghost use Rattle.digest.specs.Entries.{Sound};
 ghost use Rattle.digest.specs.Told.{Told};
 ghost use Rattle.verdicts.specs.Verdicts.{Judged};
 
-use super::commits::dones;
-use super::dependences::Dependences;
 use super::listed::Listed;
 use digest::{Entry, Listing, index};
 use verdicts::Verdict;
@@ -37,8 +35,8 @@ fn of_entries<W: Listing>(entries: &[Entry], marks: &mut [u32]) -> Verdict
     requires { (Sound entries.now) × ((length entries.now ≤ 2048) × (length entries.now ≤ length marks.old)) }
     ensures { (ls : List Line) → Told ls entries.now → Judged ls result }
 {
-    let dones = dones(entries);
-    let dependences = Dependences::of(entries);
     let listed = Listed::<W>::new(entries);
+    let dones = listed.dones();
+    let dependences = listed.dependences();
     listed.verdict(&dones, &dependences, marks)
 }

@@ -3,7 +3,8 @@ ghost use Rattle.reach.specs.Paths.{edges};
 ghost use Rattle.digest.specs.Entries.{Sound};
 ghost use Rattle.answers.specs.Questions.{Towards, steps};
 
-use digest::Entry;
+use super::listed::Listed;
+use digest::Listing;
 use reach::Graph;
 
 // The transactions, by owner, with an edge for each READ of a version that a transaction wrote.
@@ -15,18 +16,17 @@ pub(crate) struct Dependences {
     pub(crate) readers: Graph,
 }
 
-impl Dependences {
-    pub(crate) fn of(entries: &[Entry]) -> Dependences
-        requires { (Sound entries.now) × (length entries.now ≤ 2048) }
-        ensures writers { edges result.writers ≡ steps Towards.Writers entries.now (length entries.now) }
-        ensures readers { edges result.readers ≡ steps Towards.Readers entries.now (length entries.now) }
+impl<W: Listing> Listed<'_, W> {
+    pub(crate) fn dependences(&self) -> Dependences
+        ensures writers { edges result.writers ≡ steps Towards.Writers self.now.entries.now (length self.now.entries.now) }
+        ensures readers { edges result.readers ≡ steps Towards.Readers self.now.entries.now (length self.now.entries.now) }
     {
         let mut writers = Graph::new();
         let mut readers = Graph::new();
-        for entry in entries {
+        for entry in self.entries {
             if entry.is_step() {
                 let reader = entry.owner as usize;
-                let writer = entries[entry.version as usize - 1].owner as usize;
+                let writer = self.entries[entry.version as usize - 1].owner as usize;
                 let _ = writers.add(reader, writer);
                 let _ = readers.add(writer, reader);
             }

@@ -2,7 +2,6 @@ ghost use Rattle.std.specs.Prelude.{◌≡◌, ◌≤◌, not, length};
 ghost use Rattle.reach.specs.Paths.{edges};
 ghost use Rattle.answers.specs.Questions.{some_below, dirty, Snapshots, Conflicts};
 
-use super::commits::has_dirty_read;
 use super::dependences::Dependences;
 use super::listed::Listed;
 use digest::Listing;
@@ -23,7 +22,7 @@ impl<W: Listing> Listed<'_, W> {
         ensures cons { Snapshots self.now.entries.now (edges dependences.now.writers) (length self.now.entries.now) (length self.now.entries.now) result.cons }
         ensures wcf { Conflicts self.now.entries.now dones.now (edges dependences.now.writers) (edges dependences.now.readers) (length self.now.entries.now) (length self.now.entries.now) result.wcf }
     {
-        let dirty = has_dirty_read(self.entries, dones);
+        let dirty = self.has_dirty_read(dones);
         let mut verdict = Verdict {
             aca: !dirty,
             cons: true,

@@ -4,27 +4,27 @@ use Rattle.reach.specs.declared.graph.Graph.{Graph}
 use Rattle.digest.specs.Entries.{at}
 use Rattle.answers.specs.Questions.{Towards, source}
 use Rattle.answers.proofs.CommitLaws.{no_steps, steps_no, step_taken, source_low}
-use Rattle.answers.proofs.dependences.Dependences.of.Goals as goal
-use Rattle.answers.proofs.dependences.Dependences.of.Goals.{then-is_step, else-is_step}
+use Rattle.answers.proofs.listed.Listed.dependences.Goals as goal
+use Rattle.answers.proofs.listed.Listed.dependences.Goals.{then-is_step, else-is_step}
 
 pub loop-entry-init : goal.loop-entry-init
-loop-entry-init c = record {
-  writers = c.new-writers.ensures ∙ no_steps Towards.Writers c.args.entries.now;
-  readers = c.new-readers.ensures ∙ no_steps Towards.Readers c.args.entries.now;
+loop-entry-init g c = record {
+  writers = c.new-writers.ensures ∙ no_steps Towards.Writers c.args.self.now.entries.now;
+  readers = c.new-readers.ensures ∙ no_steps Towards.Readers c.args.self.now.entries.now;
 }
 
 pub loop-entry-preserved : goal.loop-entry-preserved
-loop-entry-preserved c =
-    let es = c.args.entries.now in
+loop-entry-preserved g c =
+    let es = c.args.self.now.entries.now in
     let n = c.loop-entry.entry-index in
     let inv = c.loop-entry.invariant in
     let lt : n < length es = c.loop-entry-test.true in
-    let small : n < 2048 = omega (arith, c.requires.1) in
-    let owner = c.requires.0.owner n lt in
+    let small : n < 2048 = omega (arith, c.args.self.now.few) in
+    let owner = c.args.self.now.sound.owner n lt in
     elim c.if-is_step.branch [
       | then-is_step w ↦
           let step = sym c.is_step.ensures ∙ w.if-is_step.true in
-          let low = source_low es c.requires.0 n lt step in
+          let low = source_low es c.args.self.now.sound n lt step in
           record {
             writers = ap (λ (g : Graph). edges g) w.writers-is
                 ∙ step_taken Towards.Writers es n (at es n).owner (source es (at es n)) c.loop-entry.writers w.add.new.self w.add.result inv.writers small

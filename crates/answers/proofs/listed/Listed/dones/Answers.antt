@@ -3,19 +3,19 @@ use Rattle.std.proofs.lemmas.Bool.Decides.{nat_tests}
 use Rattle.digest.specs.Entries.{at, is_done}
 use Rattle.answers.specs.Questions.{done_in}
 use Rattle.answers.proofs.CommitLaws.{none_done, done_noted, done_kept}
-use Rattle.answers.proofs.commits.dones.Goals as goal
-use Rattle.answers.proofs.commits.dones.Goals.{then-is_done+then-is_none, else-is_done, else-is_done-via-then-is_done+else-is_none, else-is_done-via-else-is_done}
+use Rattle.answers.proofs.listed.Listed.dones.Goals as goal
+use Rattle.answers.proofs.listed.Listed.dones.Goals.{then-is_done+then-is_none, else-is_done, else-is_done-via-then-is_done+else-is_none, else-is_done-via-else-is_done}
 
 pub loop-place-init : goal.loop-place-init
-loop-place-init c = ((λ o lt. none_done c.args.entries.now o lt), refl)
+loop-place-init g c = ((λ o lt. none_done c.args.self.now.entries.now o lt), refl)
 
 pub loop-place-preserved : goal.loop-place-preserved
-loop-place-preserved c =
-    let es = c.args.entries.now in
+loop-place-preserved g c =
+    let es = c.args.self.now.entries.now in
     let n = c.loop-place.place in
     let ds = c.loop-place.dones in
     let inv = c.loop-place.invariant in
-    let low = c.requires.0.owner n c.loop-place-test.true in
+    let low = c.args.self.now.sound.owner n c.loop-place-test.true in
     let kept : (xs : List (Option ℕ)) → c.if-is_done.dones ≡ xs → ((o : ℕ) → o < 2048 → get_or xs o None ≡ done_in es o (n + 1)) × (length xs ≡ 2048)
     → ((o : ℕ) → o < 2048 → get_or c.if-is_done.dones o None ≡ done_in es o (n + 1)) × (length c.if-is_done.dones ≡ 2048) =
     λ xs e h. subst (λ (xs : List (Option ℕ)). ((o : ℕ) → o < 2048 → get_or xs o None ≡ done_in es o (n + 1)) × (length xs ≡ 2048)) (sym e) h in

@@ -1,6 +1,0 @@
-use Rattle.std.proofs.Common.{◌≡◌, ℕ, ◌<◌, None, length, get_or}
-use Rattle.answers.specs.Questions.{done_in}
-use Rattle.answers.proofs.commits.dones.Given as goal
-
-abbrev pub invariant-loop-place : goal.invariant-loop-place
-invariant-loop-place l = ((o : ℕ) → o < 2048 → get_or l.dones o None ≡ done_in l.entries o l.place) × (length l.dones ≡ 2048)

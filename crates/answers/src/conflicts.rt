@@ -73,26 +73,15 @@ impl<W: Listing> Listed<'_, W> {
         requires backward { length self.now.entries.now ≤ length backward.old }
         ensures { Asked self.now.entries.now dones.now (edges readers.now) (length self.now.entries.now) forward.now owner result }
     {
-        if dones[owner].is_none()
-            || !self.lost(
-                &Known {
-                    dones,
-                    forward,
-                    backward: forward,
-                },
-                owner,
-            )
-        {
+        let known = Known {
+            dones,
+            forward,
+            backward: forward,
+        };
+        if dones[owner].is_none() || !self.lost(&known, owner) {
             return false;
         }
         readers.reach(owner, backward);
-        self.lost(
-            &Known {
-                dones,
-                forward,
-                backward,
-            },
-            owner,
-        )
+        self.lost(&Known { backward, ..known }, owner)
     }
 }

@@ -43,7 +43,8 @@ fn fits_entry<S: Shelf>(shelf: &S, card: CardNo, version: VersionNo, entry: Read
     u32::from(count) <= entry.version.0 && u32::from(counted) <= version.0
 }
 
-// The newest version of a card that fits all cards read.
+// The newest version of a card that fits all cards read. A loop that is left by its label with the version found, as the rule of reading is told: a search over
+// numbers would go through the cards in a closure of its own.
 pub fn newest_that_fits<S: Shelf>(shelf: &S, reads: &[ReadEntry], card: CardNo) -> Option<VersionNo>
     ensures { option_map (λ v. v.0) result ≡ newest_fit (S.meaning shelf.now) (map reading reads.now) card.0 (newest (S.meaning shelf.now) card.0) }
 {

@@ -1,6 +1,7 @@
 ghost use Rattle.std.specs.Prelude.{◌<◌};
 
-// Numbers that look random, each made from the one before: the same seed gives the same numbers.
+// Numbers that look random, each made from the one before: the same seed gives the same numbers. The stored answers were made with these,
+// so they are no others' dice.
 #[derive(Drop)]
 pub struct Dice {
     state: u64,
@@ -22,7 +23,7 @@ impl Dice {
         x.wrapping_mul(0x2545_f491_4f6c_dd1d) >> 16
     }
 
-    // A number below n; 0 where n is 0.
+    // A number below n; 0 where n is 0, since whoever has nothing to choose from does nothing with it.
     pub fn below(&mut self, n: u32) -> u32
         ensures { 0 < n → result < n }
     {
@@ -32,7 +33,7 @@ impl Dice {
         (self.throw() % u64::from(n)) as u32
     }
 
-    // A place below n; 0 where n is 0.
+    // A place below n; 0 where n is 0, likewise.
     pub fn place(&mut self, n: usize) -> usize
         ensures { 0 < n → result < n }
     {

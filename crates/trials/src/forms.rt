@@ -9,7 +9,7 @@ const FIRST_CARD: CardNo = CardNo(0);
 
 const SECOND_CARD: CardNo = CardNo(1);
 
-// Histories of a fixed form, for any number of transactions.
+// Histories of a fixed form, for any number of transactions. A value and no closure, since dice choose among them and lists name them.
 #[derive(Clone, Copy)]
 pub enum Form {
     // Each transaction reads from the one before; the later ones have the lower numbers.

@@ -1,4 +1,4 @@
-// How the transactions of a made history behave.
+// How the transactions of a made history behave. A value and no closure, since dice choose among them and lists name them.
 #[derive(Clone, Copy)]
 pub enum Shape {
     // Each reads what was committed when it began, and commits only where nobody overtook its writes.

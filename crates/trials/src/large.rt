@@ -13,7 +13,7 @@ const SPARE_NUMBERS: u32 = 10_000;
 
 const LAST_NUMBER: u32 = 999_998;
 
-// The largest files: 2,048 records.
+// The largest files: 2,048 records. A value and no closure, since a list names them.
 #[derive(Clone, Copy)]
 pub enum Large {
     // Of a form, for this many transactions.

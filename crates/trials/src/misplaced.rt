@@ -8,7 +8,7 @@ use std::alloc::AllocError;
 // A card that no script touches.
 const FOREIGN_CARD: CardNo = CardNo(200);
 
-// What can be wrong with the lines of a history.
+// What can be wrong with the lines of a history. A value and no closure, since dice choose among them.
 #[derive(Clone, Copy)]
 pub enum Misplaced {
     SecondRead,

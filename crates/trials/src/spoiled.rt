@@ -10,7 +10,7 @@ const FIELDS: [usize; 6] = [0, 4, 8, 12, 16, 24];
 // Numbers at the edges of the fields' ranges.
 const EDGES: [u32; 8] = [0, 1, 2, 255, 256, 1_000_000, 1_000_001, 0xffff_ffff];
 
-// What can be wrong with the bytes of a file, or with the marks for it.
+// What can be wrong with the bytes of a file, or with the marks for it. A value and no closure, since dice choose among them.
 #[derive(Clone, Copy)]
 pub enum Spoiled {
     // A field has another number, or letters of no kind.

@@ -78,7 +78,7 @@ impl<W: Listing> Register<W> {
         self.entries.len() as u16
     }
 
-    // The version of the card that the transaction wrote; 0, where it wrote none.
+    // The version of the card that the transaction wrote; 0, as of version 0, where it wrote none: no file that is judged has such a READ.
     fn version_by(&self, card: CardNo, transaction: TxNo) -> u16
         ensures { result ≡ version_in self.now.entries.items card.0 transaction.0 (length self.now.entries.items) }
     {

@@ -1,12 +1,11 @@
 -- Walks over listed entries, from the newest to the oldest of a node.
-use Rattle.std.proofs.Common.{◌≡◌, ℕ, suc, ◌<◌, ◌≤◌, Bool, true, false, List, [], ◌∷◌, ◌++◌, length, sym, ap, ◌∙◌, subst, inl, inr, arith}
+use Rattle.std.proofs.Common.{◌≡◌, ℕ, suc, ◌<◌, ◌≤◌, Bool, true, false, List, [], ◌∷◌, length, sym, ap, ◌∙◌, subst, inl, inr, arith}
 use Rattle.std.proofs.lemmas.Bool.{cases_lt, cases_Bool, both_ways}
 use Rattle.reach.specs.Links.{picks}
 use Rattle.reach.proofs.PickLaws.{Passed, passed_none, passed_here, passed_between, passed_more, passed_all}
 use Rattle.digest.specs.declared.entry.Entry.{Entry}
-use Rattle.digest.specs.Entries.{blank, at}
+use Rattle.digest.specs.Entries.{at}
 use Rattle.digest.specs.Links.{Linked}
-use Rattle.digest.proofs.Snoc.{length_snoc, getD_old, getD_new}
 
 -- no place from i up to n passes the test
 abbrev pub NoneFrom : (ℕ → Bool) → ℕ → ℕ → Type 0
@@ -75,12 +74,3 @@ linked_more count count' comes comes' key es n l g = record {
 pub linked_same : (count : ℕ) (comes : ℕ → ℕ → Bool) (key : Entry → ℕ) (es fs : List Entry) (n : ℕ) → ((k : ℕ) → k < n → at fs k ≡ at es k)
     → Linked count comes key es n → Linked count comes key fs n
 linked_same count comes key es fs n same l = record { each = l.each; by = λ k lt. subst (λ (e : Entry). comes (key e) k ≡ true) (sym (same k lt)) (l.by k lt) }
-
--- one more entry behind the others is listed
-pub linked_snoc : (count count' : ℕ) (comes comes' : ℕ → ℕ → Bool) (key : Entry → ℕ) (es : List Entry) (e : Entry) → Linked count comes key es (length es)
-    → Grown count count' comes comes' (key e) → Linked count' comes' key (es ++ e ∷ []) (length (es ++ e ∷ []))
-linked_snoc count count' comes comes' key es e l g =
-    let wide = linked_same count comes key es (es ++ e ∷ []) (length es) (λ k lt. getD_old es e blank k lt) l in
-    let here : at (es ++ e ∷ []) (length es) ≡ e = getD_new es e blank in
-    subst (Linked count' comes' key (es ++ e ∷ [])) (sym (length_snoc es e))
-    (linked_more count count' comes comes' key (es ++ e ∷ []) (length es) wide (subst (λ (y : Entry). Grown count count' comes comes' (key y)) (sym here) g))

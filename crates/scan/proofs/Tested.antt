@@ -15,9 +15,6 @@ use Rattle.scan.specs.Scanning.{Readable, lines_of, Scanned, answered}
 use Rattle.scan.proofs.Scans.{read_as_line}
 
 module _ (bs : List ℕ) where
-  pub none_scanned : Scanned bs 0
-  none_scanned = record { good = λ i lt. absurd (omega arith); lines = refl }
-
   -- one record more: what the tests of the first n and of the next give
   next_is : (n : ℕ) → Scanned bs n → scanned bs (suc n) ≡ after_record n (lines_of bs n) (decoded (part bs n))
   next_is n h = ap (next_record bs n) h.lines

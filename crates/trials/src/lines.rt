@@ -60,24 +60,25 @@ pub fn first_place(lines: &[Line], transaction: TxNo) -> Option<usize> {
 
 // Who wrote the card's newest version of those that were committed in these first lines; nobody for version 0.
 pub fn newest_writer(lines: &[Line], card: CardNo) -> TxNo {
-    lines
-        .iter()
-        .filter(|line| {
-            line.kind == Kind::Writ && line.card == card && is_done(lines, line.transaction)
-        })
-        .last()
-        .map_or(NOBODY, |line| line.transaction)
+    last_writer(lines, card, |writer| is_done(lines, writer))
 }
 
 // Who wrote the card's newest version, of those that others than the reader wrote; nobody for version 0.
 pub fn latest_writer(lines: &[Line], card: CardNo, reader: TxNo) -> TxNo {
+    last_writer(lines, card, |writer| writer != reader)
+}
+
+// The last writer of the card, of those that are asked for.
+fn last_writer<F: Fn(TxNo) -> bool>(lines: &[Line], card: CardNo, is_asked: F) -> TxNo
+    requires { F.IsAlwaysCallable is_asked }
+{
     lines
         .iter()
-        .filter(|line| {
-            line.kind == Kind::Writ && line.card == card && line.transaction != reader
-        })
+        .filter(|line| line.kind == Kind::Writ && line.card == card)
+        .map(|line| line.transaction)
+        .filter(|writer| is_asked(*writer))
         .last()
-        .map_or(NOBODY, |line| line.transaction)
+        .unwrap_or(NOBODY)
 }
 
 // Whether the transaction has a DONE.

@@ -1,4 +1,5 @@
-// An editors' desk: the catalogue, the shelf that it was set up with, and a checksum of all that is answered.
+// An editors' desk: the catalogue, the shelf that it was set up with and its cards, and a checksum of all that is answered.
+use super::cards::Cards;
 use books::{NotCommitted, Slip};
 use catalogue::Catalogue;
 use shelf::Shelf;
@@ -9,6 +10,7 @@ use transactions::Refusal;
 pub struct Desk<'a, S> {
     pub catalogue: Catalogue,
     pub shelf: &'a mut S,
+    pub cards: Cards,
     pub sum: u64,
 }
 

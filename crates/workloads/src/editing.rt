@@ -1,8 +1,9 @@
 // Work on a catalogue: the shelf is filled by transactions, then one kind of editors' work is done, as a small generator says.
-ghost use Rattle.std.specs.Prelude.{◌<◌};
 
+use super::cards::Cards;
 use super::desk::Desk;
 use super::dice::Dice;
+use super::long_reader::LongReader;
 use super::makes::{Work, on_drawers, on_split};
 use books::Slip;
 use catalogue::{BooksMemory, Catalogue};
@@ -60,67 +61,31 @@ fn words(i: u32, mark: u64) -> Value {
     }
 }
 
-// So many cards, two or more.
-#[derive(Clone, Copy)]
-struct Cards {
-    count: u32,
-    ghost several: { 1 < count },
-}
-
-impl Cards {
-    fn of(count: u32) -> Option<Cards> {
-        if count < 2 {
-            return None;
-        }
-        Some(Cards { count })
-    }
-
-    // The first four of them.
-    fn hot(self) -> Cards {
-        Cards {
-            count: self.count.min(4),
-        }
-    }
-
-    fn one(self, dice: &mut Dice) -> u32 {
-        dice.below(self.count)
-    }
-
-    // Two that differ.
-    fn pair(self, dice: &mut Dice) -> [u32; 2] {
-        let one = self.one(dice);
-        let step = 1 + dice.below(self.count - 1);
-        [
-            one,
-            ((u64::from(one) + u64::from(step)) % u64::from(self.count)) as u32,
-        ]
-    }
-}
-
-fn fill<S: Shelf>(desk: &mut Desk<'_, S>, cards: Cards, depth: u32) {
-    for i in 0..depth.wrapping_mul(cards.count) {
-        let card = [i % cards.count];
+fn fill<S: Shelf>(desk: &mut Desk<'_, S>, depth: u32) {
+    let count = desk.cards.count();
+    for i in 0..depth.wrapping_mul(count) {
+        let card = [i % count];
         desk.transact(&card, &card, words(i, 4));
     }
 }
 
-fn reads<S: Shelf>(desk: &mut Desk<'_, S>, cards: Cards, transactions: u32) {
+fn reads<S: Shelf>(desk: &mut Desk<'_, S>, transactions: u32) {
     let mut dice = Dice::new(3);
     for _ in 0..transactions {
         let read = [
-            cards.one(&mut dice),
-            cards.one(&mut dice),
-            cards.one(&mut dice),
-            cards.one(&mut dice),
+            desk.cards.one(&mut dice),
+            desk.cards.one(&mut dice),
+            desk.cards.one(&mut dice),
+            desk.cards.one(&mut dice),
         ];
         desk.transact(&read, &[], words(0, 0));
     }
 }
 
-fn drafts<S: Shelf>(desk: &mut Desk<'_, S>, cards: Cards, transactions: u32) {
+fn drafts<S: Shelf>(desk: &mut Desk<'_, S>, transactions: u32) {
     let mut dice = Dice::new(4);
     for i in 0..transactions {
-        let pair = cards.pair(&mut dice);
+        let pair = desk.cards.pair(&mut dice);
         desk.transact(&pair, &pair, words(i, 1));
     }
 }
@@ -133,15 +98,16 @@ fn begin<S: Shelf>(desk: &mut Desk<'_, S>, slip: &Slip, cards: [u32; 2], value: 
     let _ = desk.catalogue.draft(slip, CardNo(cards[0]), value);
 }
 
-fn hot<S: Shelf>(heap: Global, desk: &mut Desk<'_, S>, cards: Cards, work: &EditingWork) {
+fn hot<S: Shelf>(heap: Global, desk: &mut Desk<'_, S>, work: &EditingWork) {
     let mut dice = Dice::new(5);
+    let hot = desk.cards.hot();
     let mut slips = Vec::new(heap);
     for i in 0..work.transactions {
         if slips.reserve(1).is_err() {
             break;
         }
         if let Ok(slip) = desk.catalogue.open() {
-            begin(desk, &slip, cards.hot().pair(&mut dice), words(i, 2));
+            begin(desk, &slip, hot.pair(&mut dice), words(i, 2));
             slips.push_reserved(slip);
         }
         if !slips.is_empty() && slips.len() >= work.open as usize {
@@ -156,56 +122,14 @@ fn hot<S: Shelf>(heap: Global, desk: &mut Desk<'_, S>, cards: Cards, work: &Edit
     slips.destroy_empty();
 }
 
-// A reader that goes through the cards, one now and then.
-struct LongReader {
-    slip: Option<Slip>,
-    next: u32,
-}
-
-impl LongReader {
-    fn begin<S: Shelf>(desk: &mut Desk<'_, S>) -> LongReader {
-        LongReader {
-            slip: desk.catalogue.open().ok(),
-            next: 0,
-        }
-    }
-
-    // Reads the next card; after the last it commits and begins anew.
-    fn read_on<S: Shelf>(self, desk: &mut Desk<'_, S>, cards: Cards) -> LongReader {
-        let LongReader { slip, next } = self;
-        if let Some(slip) = &slip {
-            desk.read(slip, next);
-        }
-        if next < cards.count - 1 {
-            let next = next + 1;
-            return LongReader { slip, next };
-        }
-        let Some(slip) = slip else {
-            return LongReader {
-                slip: None,
-                next: 0,
-            };
-        };
-        desk.commit(slip);
-        LongReader::begin(desk)
-    }
-
-    fn end<S: Shelf>(self, desk: &mut Desk<'_, S>) {
-        let LongReader { slip, next: _ } = self;
-        if let Some(slip) = slip {
-            let _ = desk.catalogue.abandon(slip);
-        }
-    }
-}
-
-fn long_reader<S: Shelf>(desk: &mut Desk<'_, S>, cards: Cards, transactions: u32) {
+fn long_reader<S: Shelf>(desk: &mut Desk<'_, S>, transactions: u32) {
     let mut dice = Dice::new(6);
     let mut reader = LongReader::begin(desk);
     for i in 0..transactions {
-        let pair = cards.pair(&mut dice);
+        let pair = desk.cards.pair(&mut dice);
         desk.transact(&pair, &pair, words(i, 3));
         if i % 16 == 0 {
-            reader = reader.read_on(desk, cards);
+            reader = reader.read_on(desk);
         }
     }
     desk.catalogue.close();
@@ -237,14 +161,15 @@ impl Work for EditingWork {
         let mut desk = Desk {
             catalogue,
             shelf,
+            cards,
             sum: 0,
         };
-        fill(&mut desk, cards, self.depth);
+        fill(&mut desk, self.depth);
         match Kind::from(self.kind) {
-            Kind::Reads => reads(&mut desk, cards, self.transactions),
-            Kind::Drafts => drafts(&mut desk, cards, self.transactions),
-            Kind::Hot => hot(heap, &mut desk, cards, self),
-            Kind::LongReader => long_reader(&mut desk, cards, self.transactions),
+            Kind::Reads => reads(&mut desk, self.transactions),
+            Kind::Drafts => drafts(&mut desk, self.transactions),
+            Kind::Hot => hot(heap, &mut desk, self),
+            Kind::LongReader => long_reader(&mut desk, self.transactions),
         }
         Ok(desk.sum)
     }

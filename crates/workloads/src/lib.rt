@@ -2,9 +2,11 @@
 // that does the same can be compared with it. Nothing is promised of a checksum; what is called has its own contracts.
 #![tactic(auto)]
 
+mod cards;
 mod desk;
 mod dice;
 pub mod editing;
 pub mod files;
+mod long_reader;
 mod makes;
 pub mod store;

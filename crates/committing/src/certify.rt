@@ -14,8 +14,7 @@ use tables::OpenAt;
 fn is_current<S: Shelf>(shelf: &S, here: OpenAt<'_>, card: CardNo) -> bool
     ensures { result ≡ is_version (version_read (seat here.entry).reads card.0) (newest (S.meaning shelf.now) card.0) }
 {
-    here
-        .version_read(card)
+    here.version_read(card)
         .is_some_and(|version| version == newest_of(shelf, card))
 }
 

@@ -10,12 +10,7 @@ use tables::OpenAt;
 use transactions::Reading;
 
 // A version of a card as an open transaction sees it: with its own draft, where it has one.
-pub fn seen<S: Shelf>(
-    shelf: &S,
-    here: OpenAt<'_>,
-    card: CardNo,
-    version: VersionNo,
-) -> Reading
+pub fn seen<S: Shelf>(shelf: &S, here: OpenAt<'_>, card: CardNo, version: VersionNo) -> Reading
     ensures { result ≡ record { version = version; value = draft_of (seat here.entry).drafts card.0 (value_at (S.meaning shelf.now) card.0 version.0) } }
 {
     let value = here

@@ -72,6 +72,7 @@ impl Books {
         let place = self.place_of(slip.number)?;
         self.may_read(shelf, place, card)?;
         let here = self.table.at(place);
+        // a card read before is told again and changes nothing; a first read is entered
         match here.version_read(card) {
             Some(version) => Ok(seen(shelf, here, card, version)),
             None => self.read_first(shelf, place, card),

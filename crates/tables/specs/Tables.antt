@@ -3,6 +3,7 @@
 --     table_of t          the meaning of the tables t
 --     entry_at t p        the entry of place p
 --     nobody, at ps i     the transaction in place i, and one that did nothing where there is none
+--     seat o              the same of the place and the table that o is of
 --     taken ps i          there is a transaction in place i
 --     with_list t ps      t with other places
 --     used_of t           how many places set-up takes into use
@@ -17,6 +18,7 @@ use Rattle.stamps.specs.declared.value.Value.{Value}
 use Rattle.isolation.specs.Account.{with_draft}
 use Rattle.transactions.specs.State.{Open, standing, most_open, most_drafts}
 use Rattle.tables.specs.declared.table.OpenTable.{OpenTable}
+use Rattle.tables.specs.declared.table.open_at.OpenAt.{OpenAt}
 use Rattle.tables.specs.Rows.{each, stands}
 
 pub record Table : Type 0 where
@@ -47,6 +49,9 @@ nobody = record { number = 0; reads = []; drafts = [] }
 
 abbrev pub at : List (Option Open) → ℕ → Open
 at ps i = unwrap_or (standing (slice_get ps i)) nobody
+
+abbrev pub seat : OpenAt → Open
+seat o = at (list_of o.table.now) o.place
 
 abbrev pub taken : List (Option Open) → ℕ → Bool
 taken ps i = is_some (standing (slice_get ps i))

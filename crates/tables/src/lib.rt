@@ -6,4 +6,4 @@ mod memory;
 mod table;
 
 pub use memory::BooksMemory;
-pub use table::{DRAFTS, OpenTable};
+pub use table::{DRAFTS, OpenAt, OpenTable};

@@ -7,7 +7,10 @@ use entries::{DraftEntry, OpenPlace, ReadEntry};
 
 mod answers;
 mod changes;
+mod open_at;
 mod rows;
+
+pub use open_at::OpenAt;
 
 // How many open places are used, at the most.
 pub(crate) const PLACES: usize = 16;

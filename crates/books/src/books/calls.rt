@@ -85,10 +85,11 @@ impl Books {
         if card.0 as usize >= self.table.cards() {
             return Err(Refusal::NoCard);
         }
-        if !any_with(self.table.reads_at(place), card.0) {
+        let here = self.table.at(place);
+        if !any_with(here.reads(), card.0) {
             return Err(Refusal::Unread);
         }
-        let drafts = self.table.drafts_at(place);
+        let drafts = here.drafts();
         if drafts.len() >= DRAFTS && !any_with(drafts, card.0) {
             return Err(Refusal::DraftsOut);
         }

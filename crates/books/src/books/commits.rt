@@ -18,20 +18,21 @@ impl Books {
     fn decide<S: Shelf>(&self, shelf: &S, place: usize) -> Result<(), Refusal>
         ensures { result ≡ commit_of (state_of self.now) (S.meaning shelf.now) (at (state_of self.now).places place) (at (state_of self.now).places place).drafts }
     {
-        let drafts = self.table.drafts_at(place);
+        let here = self.table.at(place);
+        let drafts = here.drafts();
         if drafts.is_empty() {
             return Ok(());
         }
         if self.is_other(shelf, place) {
             return Err(Refusal::OtherShelf);
         }
-        if is_outdated(shelf, &self.table, place) {
+        if is_outdated(shelf, here) {
             return Err(Refusal::Conflict);
         }
         if is_crowded(shelf, drafts) {
             return Err(Refusal::NoPlace);
         }
-        if self.journal.room() < self.table.reads_at(place).len() + drafts.len() + 1 {
+        if self.journal.room() < here.reads().len() + drafts.len() + 1 {
             return Err(Refusal::JournalFull);
         }
         Ok(())
@@ -45,13 +46,14 @@ impl Books {
         ensures shelf { S.meaning shelf.new ≡ put_cards (S.meaning shelf.old) (at (state_of self.old).places place) (state_of self.old).cards }
         ensures books { state_of self.new ≡ with_journal (state_of self.old) ((state_of self.old).journal ++ block (S.meaning shelf.old) (at (state_of self.old).places place) (state_of self.old).cards) }
     {
-        let reads = self.table.reads_at(place);
-        let drafts = self.table.drafts_at(place);
+        let here = self.table.at(place);
+        let reads = here.reads();
+        let drafts = here.drafts();
         log_block(&mut self.journal, shelf, number, reads, drafts);
         put_drafts(shelf, number, reads, drafts);
     }
 
-    // Carries out the commit of the transaction in a place.
+    // Carries out the commit of the transaction in a place. The place is freed in either case: with drafts, after the journal and the shelf have what it held.
     fn carry_out<S: Shelf>(&mut self, shelf: &mut S, place: usize, number: TxNo)
         requires taken { taken (state_of self.old).places place ≡ true }
         requires number { (at (state_of self.old).places place).number ≡ number.0 }
@@ -59,7 +61,7 @@ impl Books {
         ensures shelf { S.meaning shelf.new ≡ shelf_with (state_of self.old) (S.meaning shelf.old) (at (state_of self.old).places place).drafts (at (state_of self.old).places place) }
         ensures books { state_of self.new ≡ with_journal (with_places (state_of self.old) (slice_set (state_of self.old).places place None)) (journal_with (state_of self.old) (S.meaning shelf.old) (at (state_of self.old).places place).drafts (at (state_of self.old).places place)) }
     {
-        if self.table.drafts_at(place).is_empty() {
+        if self.table.at(place).drafts().is_empty() {
             self.table.release(place);
             return;
         }

@@ -22,7 +22,7 @@ impl Books {
     {
         shelf.cards() as usize != self.table.cards()
             || shelf.width() != self.width
-            || lacks_any(shelf, self.table.reads_at(place))
+            || lacks_any(shelf, self.table.at(place).reads())
     }
 
     // Whether the transaction in a place may read a card.
@@ -38,7 +38,8 @@ impl Books {
         Ok(())
     }
 
-    // Reads a card for the first time.
+    // Reads a card for the first time. That the place is taken is a fact about the table as it stands, so no type of a place can hold it; it is asked where an
+    // entry is written.
     fn read_first<S: Shelf>(
         &mut self,
         shelf: &S,
@@ -51,10 +52,9 @@ impl Books {
         ensures answer { result ≡ read_first (S.meaning shelf.now) (at (state_of self.old).places place) card.0 }
         ensures books { state_of self.new ≡ read_place (state_of self.old) place card.0 (read_first (S.meaning shelf.now) (at (state_of self.old).places place) card.0) }
     {
-        let version = newest_that_fits(shelf, self.table.reads_at(place), card).ok_or(
-            Refusal::OtherShelf,
-        )?;
-        let reading = seen(shelf, &self.table, place, card, version);
+        let here = self.table.at(place);
+        let version = newest_that_fits(shelf, here.reads(), card).ok_or(Refusal::OtherShelf)?;
+        let reading = seen(shelf, here, card, version);
         self.table.enter_read(place, ReadEntry { card, version });
         Ok(reading)
     }
@@ -71,8 +71,10 @@ impl Books {
     {
         let place = self.place_of(slip.number)?;
         self.may_read(shelf, place, card)?;
-        match self.table.version_read(place, card) {
-            Some(version) => Ok(seen(shelf, &self.table, place, card, version)),
+        let here = self.table.at(place);
+        // a card read before is told again and changes nothing; a first read is entered
+        match here.version_read(card) {
+            Some(version) => Ok(seen(shelf, here, card, version)),
             None => self.read_first(shelf, place, card),
         }
     }

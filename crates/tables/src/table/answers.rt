@@ -1,19 +1,14 @@
 // What the tables answer.
 ghost use Rattle.std.specs.Prelude.{◌≡◌, ◌+◌, ◌*◌, ◌<◌, ◌≤◌, true, false, [], map, length, take, Some, None, vec_len, MatchOption};
 ghost use Rattle.std.specs.List.{slice_get};
-ghost use Rattle.std.specs.Option.{option_map, unwrap_or};
 ghost use Rattle.transactions.specs.State.{last_at, numbered};
-ghost use Rattle.stamps.specs.declared.value.Value.{Value};
-ghost use Rattle.isolation.specs.Account.{draft_of};
 ghost use Rattle.transactions.specs.Calls.{all_taken};
-ghost use Rattle.transactions.specs.Choosing.{version_read};
-ghost use Rattle.entries.specs.Contents.{reading, drafting};
-ghost use Rattle.tables.specs.Tables.{table_of, enough, list_of, entry_at, at, taken as takes};
+ghost use Rattle.tables.specs.Tables.{table_of, enough, list_of, entry_at, taken as takes};
 
 use crate::table::rows::Rows;
 use crate::table::{DRAFTS, OpenTable, PLACES};
-use entries::{DraftEntry, OpenPlace, ReadEntry, Taken, last_entry, last_with};
-use stamps::{CardNo, TxNo, Value, VersionNo};
+use entries::{DraftEntry, OpenPlace, ReadEntry, Taken, last_with};
+use stamps::TxNo;
 
 impl OpenTable {
     // Before set-up no place is in use.
@@ -77,39 +72,5 @@ impl OpenTable {
         ensures { MatchOption result (takes (list_of self.now) place ≡ false) (λ k. (takes (list_of self.now) place ≡ true) × (entry_at self.now place ≡ Some k)) }
     {
         *self.in_use().get(place)?
-    }
-
-    // The cards that the transaction in a place has read, none where there is no transaction.
-    pub fn reads_at(&self, place: usize) -> &[ReadEntry]
-        ensures { map reading result.now ≡ (at (list_of self.now) place).reads }
-    {
-        let Some(taken) = self.taken(place) else {
-            return &[];
-        };
-        self.reads.first(place, taken.reads)
-    }
-
-    // Its drafts.
-    pub fn drafts_at(&self, place: usize) -> &[DraftEntry]
-        ensures { map drafting result.now ≡ (at (list_of self.now) place).drafts }
-    {
-        let Some(taken) = self.taken(place) else {
-            return &[];
-        };
-        self.drafts.first(place, taken.drafts)
-    }
-
-    // The version in which it has read a card.
-    pub fn version_read(&self, place: usize, card: CardNo) -> Option<VersionNo>
-        ensures { option_map (λ v. v.0) result ≡ version_read (at (list_of self.now) place).reads card.0 }
-    {
-        last_entry(self.reads_at(place), card.0).map(|entry| entry.version)
-    }
-
-    // What it has drafted for a card.
-    pub fn draft_of(&self, place: usize, card: CardNo) -> Option<Value>
-        ensures { (v : Value) → unwrap_or result v ≡ draft_of (at (list_of self.now) place).drafts card.0 v }
-    {
-        last_entry(self.drafts_at(place), card.0).map(|entry| entry.value)
     }
 }

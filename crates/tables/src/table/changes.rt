@@ -33,7 +33,8 @@ impl OpenTable {
         }
     }
 
-    // Enters a card that the transaction in a place reads for the first time.
+    // Enters a card that the transaction in a place reads for the first time. That a place is taken is a fact about the table as it stands, so no type of a place
+    // can hold it; it is asked where an entry is written.
     pub fn enter_read(&mut self, place: usize, entry: ReadEntry)
         requires taken { takes (list_of self.old) place ≡ true }
         requires listed { entry.card.0 < (table_of self.old).cards }
@@ -57,7 +58,7 @@ impl OpenTable {
         requires few { (drafted (at (list_of self.old) place).drafts draft.card.0 || nat_lt (length (at (list_of self.old) place).drafts) 32) ≡ true }
         ensures { table_of self.new ≡ with_place (table_of self.old) place (Some (draft_set (at (list_of self.old) place) draft.card.0 draft.value)) }
     {
-        match last_with(self.drafts_at(place), draft.card.0) {
+        match last_with(self.at(place).drafts(), draft.card.0) {
             Some(nth) => self.replace_draft(place, nth, draft),
             None => self.add_draft(place, draft),
         }

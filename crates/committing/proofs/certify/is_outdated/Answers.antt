@@ -1,6 +1,6 @@
 use Rattle.std.proofs.Common.{◌≡◌, ℕ, ◌+◌, ◌≤◌, cond, sym, ap, ◌∙◌, arith}
 use Rattle.entries.specs.declared.entries.DraftEntry.{DraftEntry}
-use Rattle.tables.specs.Tables.{list_of, at}
+use Rattle.tables.specs.Tables.{seat}
 use Rattle.committing.proofs.Certified.{outdated_more, outdated_end}
 use Rattle.committing.proofs.certify.is_outdated.Goals as goal
 use Rattle.committing.proofs.certify.is_outdated.Goals.{then-not-is_current, else-not-is_current}
@@ -17,7 +17,7 @@ loop-draft-preserved g c =
     ] in
     let low : c.if-not-is_current.stale ≤ c.loop-draft.stale + 1 =
     elim c.if-not-is_current.branch [ then-not-is_current w ↦ omega (arith, w.stale-is) | else-not-is_current w ↦ omega (arith, w.stale-is) ] in (
-      outdated_more (g.S.Shelf.meaning c.args.shelf.now) (at (list_of c.args.table.now) c.args.place).reads c.drafts_at-draft-items.result.now
+      outdated_more (g.S.Shelf.meaning c.args.shelf.now) (seat c.args.here).reads c.drafts-draft-items.result.now
           c.loop-draft.draft-index none c.loop-draft.stale c.if-not-is_current.stale c.is_current.result c.loop-draft-test.true c.is_current.ensures counted
           c.loop-draft.invariant.0,
       omega (arith, low, c.loop-draft.invariant.1),
@@ -25,6 +25,6 @@ loop-draft-preserved g c =
 
 pub returns : goal.returns
 returns g c =
-    outdated_end (g.S.Shelf.meaning c.args.shelf.now) (at (list_of c.args.table.now) c.args.place).reads c.drafts_at-draft-items.result.now
-    (at (list_of c.args.table.now) c.args.place).drafts c.loop-draft.draft-index c.loop-draft.stale c.loop-draft-test.false
-    c.drafts_at-draft-items.ensures c.loop-draft.invariant.0
+    outdated_end (g.S.Shelf.meaning c.args.shelf.now) (seat c.args.here).reads c.drafts-draft-items.result.now
+    (seat c.args.here).drafts c.loop-draft.draft-index c.loop-draft.stale c.loop-draft-test.false
+    c.drafts-draft-items.ensures c.loop-draft.invariant.0

@@ -16,8 +16,8 @@ returns-then-is_empty g c =
     let m = g.S.Shelf.meaning c.args.shelf.now in
     let p = c.args.place in
     let o = at b.places p in
-    let es = c.drafts_at.result.now in
-    let many : length o.drafts ≡ length es = ap length (sym c.drafts_at.ensures) ∙ length-map es drafting in
+    let es = c.drafts.result.now in
+    let many : length o.drafts ≡ length es = ap length (sym (c.drafts.ensures ∙ ap (λ l. l.drafts) c.at.ensures)) ∙ length-map es drafting in
     let none : length o.drafts ≡ 0 = omega (arith, many, eqb-true (length es) 0 (sym c.is_empty.ensures ∙ c.if-is_empty.true)) in
     record {
       shelf = sym (shelf_none b m o o.drafts none);
@@ -32,8 +32,8 @@ write_out-requires g c =
     let m = g.S.Shelf.meaning c.args.shelf.now in
     let p = c.args.place in
     let o = at b.places p in
-    let es = c.drafts_at.result.now in
-    let many : length o.drafts ≡ length es = ap length (sym c.drafts_at.ensures) ∙ length-map es drafting in
+    let es = c.drafts.result.now in
+    let many : length o.drafts ≡ length es = ap length (sym (c.drafts.ensures ∙ ap (λ l. l.drafts) c.at.ensures)) ∙ length-map es drafting in
     let some : length o.drafts ≡ 0 → ⊥ =
     λ (e : length o.drafts ≡ 0). eqb-false (length es) 0 (sym c.is_empty.ensures ∙ c.if-is_empty.false) (omega (arith, many)) in
     record { taken = c.requires.taken; number = c.requires.number; granted = sym (commit_some b m o o.drafts some) ∙ c.requires.granted }
@@ -44,8 +44,8 @@ returns g c =
     let m = g.S.Shelf.meaning c.args.shelf.now in
     let p = c.args.place in
     let o = at b.places p in
-    let es = c.drafts_at.result.now in
-    let many : length o.drafts ≡ length es = ap length (sym c.drafts_at.ensures) ∙ length-map es drafting in
+    let es = c.drafts.result.now in
+    let many : length o.drafts ≡ length es = ap length (sym (c.drafts.ensures ∙ ap (λ l. l.drafts) c.at.ensures)) ∙ length-map es drafting in
     let some : length o.drafts ≡ 0 → ⊥ =
     λ (e : length o.drafts ≡ 0). eqb-false (length es) 0 (sym c.is_empty.ensures ∙ c.if-is_empty.false) (omega (arith, many)) in
     let w = c.write_out.new.self in

@@ -1,7 +1,9 @@
-use Rattle.std.proofs.Common.{Ok, Err, sym, ap, ◌∙◌}
+use Rattle.std.proofs.Common.{Some, Ok, Err, sym, ap, ◌∙◌}
 use Rattle.std.specs.Option.{option_map}
 use Rattle.std.proofs.lemmas.Result.{err_from_is_err_and}
 use Rattle.transactions.specs.State.{last_at, numbered}
+use Rattle.transactions.specs.Calls.{read_at}
+use Rattle.transactions.specs.Choosing.{version_read}
 use Rattle.books.specs.States.{state_of}
 use Rattle.tables.specs.Tables.{at}
 use Rattle.books.proofs.CallCases.{found_there}
@@ -34,7 +36,7 @@ read_first-requires g c =
     let x = c.args.card.0 in
     let found = found_there (last_at (numbered n) b.places) i (sym c.place_of.ensures ∙ c.in_ok-place.was) in
     let ok = sym c.may_read.ensures ∙ c.in_ok-may_read.was in
-    let none = sym c.version_read.ensures ∙ ap (option_map (λ v. v.0)) c.in-None.is in
+    let none = sym (c.version_read.ensures ∙ ap (λ l. version_read l.reads x) c.at-here.ensures) ∙ ap (option_map (λ v. v.0)) c.in-None.is in
     record {
       taken = (holds_from b.places n i found).open_there;
       listed = (tests_passed b m x (at b.places i) ok).0;
@@ -51,8 +53,8 @@ returns-in-Some g c =
     let k = c.in-Some.version.0 in
     let found = found_there (last_at (numbered n) b.places) i (sym c.place_of.ensures ∙ c.in_ok-place.was) in
     let ok = sym c.may_read.ensures ∙ c.in_ok-may_read.was in
-    let known = sym c.version_read.ensures ∙ ap (option_map (λ v. v.0)) c.in-Some.is in
-    record { answer = ap Ok c.seen.ensures ∙ sym (read_known b m n x i found k ok known); books = read_known_books b m n x i found k ok known }
+    let known = sym (c.version_read.ensures ∙ ap (λ l. version_read l.reads x) c.at-here.ensures) ∙ ap (option_map (λ v. v.0)) c.in-Some.is in
+    record { answer = ap Ok c.seen.ensures ∙ ap (λ l. read_at m l.drafts x (Some k)) c.at-here.ensures ∙ sym (read_known b m n x i found k ok known); books = read_known_books b m n x i found k ok known }
 
 pub returns-in-None : goal.returns-in-None
 returns-in-None g c =
@@ -63,7 +65,7 @@ returns-in-None g c =
     let x = c.args.card.0 in
     let found = found_there (last_at (numbered n) b.places) i (sym c.place_of.ensures ∙ c.in_ok-place.was) in
     let ok = sym c.may_read.ensures ∙ c.in_ok-may_read.was in
-    let none = sym c.version_read.ensures ∙ ap (option_map (λ v. v.0)) c.in-None.is in
+    let none = sym (c.version_read.ensures ∙ ap (λ l. version_read l.reads x) c.at-here.ensures) ∙ ap (option_map (λ v. v.0)) c.in-None.is in
     record {
       answer = c.read_first.ensures.answer ∙ sym (read_new b m n x i found ok none);
       books = c.read_first.ensures.books ∙ read_new_books b m n x i found ok none;

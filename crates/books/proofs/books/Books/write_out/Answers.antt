@@ -21,14 +21,14 @@ log_block-requires g c =
     let o = at b.places p in
     let passed = decide_passed b m o c.requires.granted in
     let neat = neat_at t p in
-    let rs = c.reads_at-reads.ensures in
-    let ds = c.drafts_at-drafts.ensures in
+    let rs = c.reads-reads.ensures ∙ ap (λ l. l.reads) c.at-here.ensures in
+    let ds = c.drafts-drafts.ensures ∙ ap (λ l. l.drafts) c.at-here.ensures in
     let modest : t.reads.width ≤ room = omega (arith, same_cards b m o passed.0, (g.met.S.Shelf.sound c.args.shelf.now).few) in
     record {
       read = ap (λ l. apart room (read_cards l)) rs ∙ apart_wider t.reads.width room (read_cards o.reads) modest neat.0;
       drafted = ap (λ l. apart room (draft_cards l)) ds ∙ apart_wider t.reads.width room (draft_cards o.drafts) modest neat.1;
       space =
-          omega (arith, passed.2, ap length rs, ap length ds, length-map c.reads_at-reads.result.now reading, length-map c.drafts_at-drafts.result.now drafting);
+          omega (arith, passed.2, ap length rs, ap length ds, length-map c.reads-reads.result.now reading, length-map c.drafts-drafts.result.now drafting);
     }
 
 pub put_drafts-requires : goal.put_drafts-requires
@@ -40,8 +40,8 @@ put_drafts-requires g c =
     let o = at b.places p in
     let passed = decide_passed b m o c.requires.granted in
     let neat = neat_at t p in
-    let rs = c.reads_at-reads.ensures in
-    let ds = c.drafts_at-drafts.ensures in
+    let rs = c.reads-reads.ensures ∙ ap (λ l. l.reads) c.at-here.ensures in
+    let ds = c.drafts-drafts.ensures ∙ ap (λ l. l.drafts) c.at-here.ensures in
     record {
       listed = ap (λ l. apart m.cards (draft_cards l)) ds ∙ ap (λ n. apart n (draft_cards o.drafts)) (same_cards b m o passed.0) ∙ neat.1;
       spare = ap (crowded m) ds ∙ passed.1;
@@ -56,9 +56,9 @@ returns g c =
     let o = at b.places p in
     let passed = decide_passed b m o c.requires.granted in
     let neat = neat_at t p in
-    let rs = c.reads_at-reads.ensures in
-    let ds = c.drafts_at-drafts.ensures in
-    let is = opening_is o c.args.number.0 (map reading c.reads_at-reads.result.now) (map drafting c.drafts_at-drafts.result.now) c.requires.number rs ds in
+    let rs = c.reads-reads.ensures ∙ ap (λ l. l.reads) c.at-here.ensures in
+    let ds = c.drafts-drafts.ensures ∙ ap (λ l. l.drafts) c.at-here.ensures in
+    let is = opening_is o c.args.number.0 (map reading c.reads-reads.result.now) (map drafting c.drafts-drafts.result.now) c.requires.number rs ds in
     record {
       shelf = c.put_drafts.ensures ∙ ap (λ q. put_cards m q m.cards) is ∙ ap (put_cards m o) (same_cards b m o passed.0);
       books =

@@ -10,11 +10,11 @@ use Rattle.tables.proofs.table.OpenTable.set_draft.Goals as goal
 
 pub replace_draft-requires : goal.replace_draft-requires
 replace_draft-requires c =
-    let es = c.drafts_at.result.now in
+    let es = c.drafts.result.now in
     let x = c.args.draft.card.0 in
     let j = c.in-Some.nth in
     let found = found_card (λ e. e.card.0) es x j c.args.draft (sym c.last_with.ensures ∙ c.in-Some.is) in
-    let are = c.drafts_at.ensures in
+    let are = c.drafts.ensures ∙ ap (λ o. o.drafts) c.at.ensures in
     record {
       taken = c.requires.taken;
       there = omega (arith, found.0, length-map es drafting, ap length are);
@@ -23,11 +23,11 @@ replace_draft-requires c =
 
 pub add_draft-requires : goal.add_draft-requires
 add_draft-requires c =
-    let es = c.drafts_at.result.now in
+    let es = c.drafts.result.now in
     let x = c.args.draft.card.0 in
     let none = last_at_none (λ e. eqb e.card.0 x) es (sym c.last_with.ensures ∙ c.in-None.is) in
     let ds = (at (list_of c.args.self.now) c.args.place).drafts in
-    let out : drafted ds x ≡ false = ap (λ l. drafted l x) (sym c.drafts_at.ensures) ∙ sym (drafted_any es x) ∙ none in
+    let out : drafted ds x ≡ false = ap (λ l. drafted l x) (sym (c.drafts.ensures ∙ ap (λ o. o.drafts) c.at.ensures)) ∙ sym (drafted_any es x) ∙ none in
     record {
       taken = c.requires.taken;
       listed = c.requires.listed;

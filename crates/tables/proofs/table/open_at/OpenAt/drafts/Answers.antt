@@ -3,12 +3,12 @@ use Rattle.entries.specs.Contents.{drafting}
 use Rattle.tables.specs.Rows.{row}
 use Rattle.tables.specs.Tables.{nobody}
 use Rattle.tables.proofs.Standing.{taken_low, kept_open, at_is, drafts_end}
-use Rattle.tables.proofs.table.OpenTable.drafts_at.Goals as goal
+use Rattle.tables.proofs.table.open_at.OpenAt.drafts.Goals as goal
 
 pub first-requires : goal.first-requires
 first-requires c =
-    let t = c.args.self.now in
-    let p = c.args.place in
+    let t = c.args.self.now.table.now in
+    let p = c.args.self.now.place in
     let there = c.in-Some.ensures in
     let low = taken_low t p there.0 in
     let k = c.in-Some.taken in
@@ -16,8 +16,8 @@ first-requires c =
 
 pub returns : goal.returns
 returns c =
-    let t = c.args.self.now in
-    let p = c.args.place in
+    let t = c.args.self.now.table.now in
+    let p = c.args.self.now.place in
     let there = c.in-Some.ensures in
     let k = c.in-Some.taken in
     let is = at_is t p k (taken_low t p there.0) there.1 in

@@ -15,7 +15,8 @@ use std::alloc::{AllocError, Global};
 // How many cards a shelf has at most, and how many counts its stamps.
 const ROOM: u32 = 256;
 
-// The drawers of a shelf, each with its places. A question about a card is asked only where the shelf has the card.
+// The drawers of a shelf, each with its places. A question about a card is asked only where the shelf has the card: that is a
+// `requires`, and no type of a card can say it, since another shelf may lack the card.
 pub trait Drawers {
     // What the drawers are made from.
     type Memory;
@@ -39,6 +40,7 @@ pub trait Drawers {
     fn reserve(heap: Global, cards: u32, places: u32) -> Result<Self::Memory, AllocError>
         ensures { IfOk result (λ m. (size : Size) → size.cards ≡ cards → size.places ≡ places → fits m size ≡ size_fits MOST_PLACES size) };
 
+    // Whether drawers of this size fit into the memory.
     fn fits(memory: &Self::Memory, size: Size) -> bool
         ensures { result ≡ fits memory.now size };
 
@@ -51,6 +53,7 @@ pub trait Drawers {
     fn none(memory: Self::Memory) -> Self
         ensures { meaning result ≡ no_cards };
 
+    // How many cards the drawers are for, and how many counts each stamp has.
     fn size(&self) -> Size
         ensures cards { result.cards ≡ (meaning self.now).cards }
         ensures width { result.width ≡ (meaning self.now).width };
@@ -85,6 +88,9 @@ pub trait Drawers {
         ensures { meaning self.new ≡ added (meaning self.old) card.0 (version_of (meaning self.old).width written) };
 
     ghost sound: { (s : Self) → Sound (meaning s) };
+
+    // What fits is within the limits.
+    ghost fits_within: { (m : Self.Memory) (size : Size) → fits m size ≡ true → size_fits MOST_PLACES size ≡ true };
 
     ghost made_if_fits: { (m : Self.Memory) (size : Size) → made m size ≡ cond (fits m size) (fresh size together) no_cards };
 }

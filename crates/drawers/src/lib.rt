@@ -4,7 +4,9 @@
 mod giving;
 mod placed;
 mod places;
+mod stamping;
 
 pub use giving::{Drawers, is_within};
 pub use placed::PlacedShelf;
 pub use places::{Places, Written};
+pub use stamping::stamp_from;

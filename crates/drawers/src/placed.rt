@@ -9,6 +9,7 @@ ghost use Rattle.drawers.specs.Places.{version_kept};
 
 use crate::giving::Drawers;
 use crate::places::Written;
+use crate::stamping::stamp_from;
 use shelf::{CheckRefusal, PutRefusal, Shelf, Size};
 use stamps::{CardNo, Stamp, TxNo, Value, VersionNo};
 
@@ -48,7 +49,7 @@ impl<D: Drawers> PlacedShelf<D> {
         card.0 < self.drawers.size().cards
     }
 
-    // What is written of a version that the shelf has; none of version 0.
+    // What is written of a version. Two options: a shelf may lack the version, and version 0, which each card has, is in no place.
     fn found(&self, card: CardNo, version: VersionNo) -> Option<Option<&Written>>
         ensures { option_map (λ o. version_kept (D.meaning self.now.drawers).width (option_map (λ t. t.now) o)) result ≡ version_at (D.meaning self.now.drawers) card.0 version.0 }
     {
@@ -66,10 +67,7 @@ impl<D: Drawers> PlacedShelf<D> {
         ensures told { is_some result ≡ countable (D.meaning self.now.drawers).width counts.now }
         ensures kept { IfSome result (λ x. cut (D.meaning self.now.drawers).width (entries x) ≡ counts_at counts.now) }
     {
-        if counts.len() > self.width() as usize {
-            return None;
-        }
-        Stamp::from_counts(counts)
+        stamp_from(self.width(), counts)
     }
 }
 

@@ -12,6 +12,7 @@ pub struct Written {
     pub stamp: Stamp,
 }
 
+// All places of a shelf's memory, each with what it holds.
 #[derive(Drop)]
 pub struct Places {
     pub written: Vec<Written>,

@@ -1,21 +1,24 @@
 -- What the fields of a pool's drawer say of its meaning. Assumes nothing.
-use Rattle.std.specs.Prelude.{◌≡◌, ℕ, suc, pred, ◌-◌, ◌<◌, ◌≤◌, length, Some, vec_items, vec_len, nat_lt, slice_index_or, slice_set, refl}
+use Rattle.std.specs.Prelude.{◌≡◌, ℕ, suc, pred, ◌-◌, ◌<◌, ◌≤◌, length, Some, vec_items, vec_len, nat_lt, slice_index_or, slice_set, refl, true, ◌&&◌, nat_le}
 use Rattle.std.proofs.Common.{sym, subst, ◌∙◌, arith}
 use Rattle.std.proofs.Math.Path.{ap}
 use Rattle.std.specs.List.{slice_get}
 use Rattle.std.proofs.lemmas.List.{get_or_read_under}
-use Rattle.std.proofs.lemmas.Bool.{cond-true, lt-ltb}
+use Rattle.std.proofs.lemmas.Bool.{cond-true, lt-ltb, and_parts}
 use Rattle.pools.specs.declared.chain.Chain.{Chain}
 use Rattle.pools.specs.declared.chain.Link.{Link}
 use Rattle.drawers.specs.declared.places.Written.{Written}
+use Rattle.pools.specs.declared.pool.PoolMemory.{PoolMemory}
 use Rattle.pools.specs.declared.pool.PoolDrawer.{PoolDrawer}
 use Rattle.pools.specs.Chains.{tally, no_link, no_chain, chain_at, link_at, owner, Led, Leads}
+use Rattle.shelf.specs.declared.size.Size.{Size}
 use Rattle.shelf.specs.Meaning.{Version, version_at, newest}
 use Rattle.shelf.specs.Sound.{Sound}
+use Rattle.drawers.specs.Fresh.{size_fits}
 use Rattle.drawers.specs.Places.{version_in, version_of, Wrote}
 use Rattle.shelf.specs.Putting.{added}
 use Rattle.pools.specs.Pools.{pool_of}
-use Rattle.pools.specs.PoolMeaning.{pool_meaning}
+use Rattle.pools.specs.PoolMeaning.{pool_meaning, pool_fits}
 use Rattle.pools.specs.Links.{Knows, from_known, Newest, from_newest, leads_further, owner_kept, chain_new}
 use Rattle.pools.specs.PoolsLemmas.{tally_le, pool_length, pool_nth, pool_sound, pool_added}
 use Rattle.drawers.proofs.Spots.{version_read, narrow_in, wrote_other, wrote_here}
@@ -33,6 +36,12 @@ pool_cards s = refl
 pub pool_width : (s : PoolDrawer) → (pool_meaning s).width ≡ s.size.width
 unfolding pool_meaning
 pool_width s = refl
+
+-- what fits is within the limits
+pub fits_within : (m : PoolMemory) (size : Size) → pool_fits m size ≡ true → size_fits 65535 size ≡ true
+fits_within m size fits =
+    let roomy = nat_le size.cards (vec_len m.newest) && (nat_le size.places (vec_len m.chains) && nat_le size.places (vec_len m.places.written)) in
+    (and_parts (size_fits 65535 size) roomy fits).0
 
 pub sound : (s : PoolDrawer) → Sound (pool_meaning s)
 unfolding pool_meaning

@@ -1,18 +1,21 @@
 -- What the fields of a row's drawers say of their meaning. Assumes nothing.
-use Rattle.std.specs.Prelude.{◌≡◌, ℕ, zero, suc, pred, ◌+◌, ◌-◌, ◌*◌, ◌<◌, ◌≤◌, Some, vec_items, vec_len, nat_lt, slice_index, slice_index_or, slice_set, refl}
+use Rattle.std.specs.Prelude.{◌≡◌, ℕ, zero, suc, pred, ◌+◌, ◌-◌, ◌*◌, ◌<◌, ◌≤◌, Some, vec_items, vec_len, nat_lt, slice_index, slice_index_or, slice_set, refl, true, ◌&&◌, nat_le}
 use Rattle.std.proofs.Math.Path.{ap}
 use Rattle.std.proofs.Common.{◌∙◌, arith}
 use Rattle.std.proofs.Math.Arith.{digits_lt}
 use Rattle.std.proofs.lemmas.List.{get_or_read_under, get_or-set_same, get_or-set_other}
-use Rattle.std.proofs.lemmas.Bool.{cond-true, lt-ltb}
+use Rattle.std.proofs.lemmas.Bool.{cond-true, lt-ltb, and_parts}
 use Rattle.drawers.specs.declared.places.Written.{Written}
+use Rattle.rows.specs.declared.row.RowMemory.{RowMemory}
 use Rattle.rows.specs.declared.row.RowDrawers.{RowDrawers}
+use Rattle.shelf.specs.declared.size.Size.{Size}
 use Rattle.shelf.specs.Meaning.{Version, version_at, newest}
 use Rattle.shelf.specs.Sound.{Sound}
+use Rattle.drawers.specs.Fresh.{size_fits}
 use Rattle.drawers.specs.Places.{version_in, version_of, Wrote}
 use Rattle.shelf.specs.Putting.{added}
 use Rattle.rows.specs.Rows.{row_of}
-use Rattle.rows.specs.RowMeaning.{row_meaning}
+use Rattle.rows.specs.RowMeaning.{row_meaning, row_fits}
 use Rattle.rows.specs.RowsLemmas.{row_length, row_nth, row_sound, row_added}
 use Rattle.drawers.proofs.Spots.{version_read, narrow_in, wrote_other, wrote_here}
 
@@ -29,6 +32,11 @@ row_cards s = refl
 pub row_width : (s : RowDrawers) → (row_meaning s).width ≡ s.size.width
 unfolding row_meaning
 row_width s = refl
+
+-- what fits is within the limits
+pub fits_within : (m : RowMemory) (size : Size) → row_fits m size ≡ true → size_fits 4095 size ≡ true
+fits_within m size fits =
+    (and_parts (size_fits 4095 size) (nat_le size.cards (vec_len m.used) && nat_le (size.cards * size.places) (vec_len m.places.written)) fits).0
 
 pub sound : (s : RowDrawers) → Sound (row_meaning s)
 unfolding row_meaning

@@ -28,6 +28,8 @@ impl Drawers for PoolDrawer {
 
     ghost sound = { PoolFacts.sound };
 
+    ghost fits_within = { PoolFacts.fits_within };
+
     ghost made_if_fits = { λ m size. refl };
 
     fn reserve(heap: Global, cards: u32, places: u32) -> Result<PoolMemory, AllocError> {

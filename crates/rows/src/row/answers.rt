@@ -28,6 +28,8 @@ impl Drawers for RowDrawers {
 
     ghost sound = { RowFacts.sound };
 
+    ghost fits_within = { RowFacts.fits_within };
+
     ghost made_if_fits = { λ m size. refl };
 
     fn reserve(heap: Global, cards: u32, places: u32) -> Result<RowMemory, AllocError> {

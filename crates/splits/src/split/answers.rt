@@ -1,5 +1,4 @@
 // What a split answers, and how it takes a version: each by the side that keeps the card.
-ghost use Rattle.std.specs.Prelude.{◌≡◌};
 ghost use Rattle.splits.specs.Split.{parts, join, Kept};
 ghost use Rattle.splits.specs.SplitLaws.{split_sound, both_sound};
 
@@ -11,7 +10,7 @@ use stamps::{CardNo, Stamp, TxNo, Value, VersionNo};
 const MOST_CARDS: u32 = 256;
 
 impl<L: Shelf, R: Shelf> SplitShelf<L, R> {
-    // The side that keeps a card, and the card's number there, with what follows for every question.
+    // The side that keeps a card, and the card's number there; none for a card that the split does not show.
     pub fn side(&self, card: CardNo) -> Option<(Side, CardNo)>
         ensures { Kept (parts (L.Shelf.meaning self.now.left) (R.Shelf.meaning self.now.right)) card.0 result }
     {

@@ -18,6 +18,7 @@ pub fn judged_by<W: Listing>(file: &[u8], marks: &mut [u32]) -> Verdict
     ensures clear { marks.new ≡ replicate (length marks.old) 0 }
 {
     let entries = index::<W>(file);
+    // With more entries than marks this stays: a verdict that means nothing is still a verdict, and no file that is judged gets it.
     let mut verdict = Verdict {
         aca: false,
         cons: false,

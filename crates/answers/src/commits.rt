@@ -1,5 +1,4 @@
-ghost use Rattle.std.specs.Prelude.{◌≡◌, ℕ, ◌<◌, ◌≤◌, None, length, slice_index_or};
-ghost use Rattle.digest.specs.Entries.{Sound};
+ghost use Rattle.std.specs.Prelude.{◌≡◌, ℕ, ◌<◌, None, length, slice_index_or};
 ghost use Rattle.answers.specs.Questions.{comes_before, committed, done_in, dirty, some_below};
 
 use super::listed::Listed;
@@ -7,7 +6,7 @@ use digest::Listing;
 use reach::PLACES;
 
 // Whether the transaction has a DONE.
-pub(crate) fn is_committed(dones: &[Option<u16>], owner: u16) -> bool
+pub(crate) fn is_committed(dones: &[Option<u16>; PLACES], owner: u16) -> bool
     ensures { result ≡ committed dones.now owner }
 {
     dones.get(owner as usize).copied().flatten().is_some()
@@ -36,8 +35,7 @@ impl<W: Listing> Listed<'_, W> {
     }
 
     // Whether a READ is from a transaction without an earlier DONE.
-    pub(crate) fn has_dirty_read(&self, dones: &[Option<u16>]) -> bool
-        requires { length self.now.entries.now ≤ length dones.now }
+    pub(crate) fn has_dirty_read(&self, dones: &[Option<u16>; PLACES]) -> bool
         ensures { result ≡ some_below (dirty self.now.entries.now dones.now) (length self.now.entries.now) }
     {
         for (place, entry) in self.entries.iter().enumerate() {

@@ -5,15 +5,16 @@ ghost use Rattle.digest.specs.Entries.{at};
 ghost use Rattle.answers.specs.Questions.{Asked, clashes as has-clash, lost as is_lost, apart};
 
 use super::commits::is_committed;
-use super::listed::{Listed, node_of};
+use super::listed::{Listed, card_node};
 use super::marks::is_marked;
 use digest::Listing;
-use reach::{Graph, Places};
+use reach::{Graph, PLACES, Places};
 
-// What is known about a transaction: who is committed, and which transactions it depends on, and which depend on it.
+// What is known about a transaction: who is committed, which transactions it depends on, and which depend on it. Before these are searched for,
+// `backward` is `forward` again, which rules out nobody else.
 #[derive(Clone, Copy)]
 struct Known<'a> {
-    dones: &'a [Option<u16>],
+    dones: &'a [Option<u16>; PLACES],
     forward: &'a [u32],
     backward: &'a [u32],
 }
@@ -36,7 +37,7 @@ impl<W: Listing> Listed<'_, W> {
         ensures { result ≡ has-clash self.now.entries.now known.now.dones.now known.now.forward.now known.now.backward.now place }
     {
         let writ = self.entries[place];
-        for earlier in Places::older_than(&self.writs, node_of(&writ), place) {
+        for earlier in Places::older_than(&self.writs, card_node(&writ), place) {
             let other = self.entries[earlier];
             if writ.rivals(&other) && known.is_apart(other.owner) {
                 return true;
@@ -62,14 +63,13 @@ impl<W: Listing> Listed<'_, W> {
     // marked in `forward`. Those that depend on it are searched for only where an earlier writer is not among them.
     pub(crate) fn conflicting(
         &self,
-        dones: &[Option<u16>],
+        dones: &[Option<u16>; PLACES],
         readers: &Graph,
         forward: &[u32],
         backward: &mut [u32],
         owner: usize,
     ) -> bool
         requires own { owner < length self.now.entries.now }
-        requires dones { length self.now.entries.now ≤ length dones.now }
         requires backward { length self.now.entries.now ≤ length backward.old }
         ensures { Asked self.now.entries.now dones.now (edges readers.now) (length self.now.entries.now) forward.now owner result }
     {

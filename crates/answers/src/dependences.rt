@@ -1,6 +1,5 @@
-ghost use Rattle.std.specs.Prelude.{◌≡◌, ◌≤◌, length};
+ghost use Rattle.std.specs.Prelude.{◌≡◌, length};
 ghost use Rattle.reach.specs.Paths.{edges};
-ghost use Rattle.digest.specs.Entries.{Sound};
 ghost use Rattle.answers.specs.Questions.{Towards, steps};
 
 use super::listed::Listed;
@@ -17,6 +16,7 @@ pub(crate) struct Dependences {
 }
 
 impl<W: Listing> Listed<'_, W> {
+    // An edge each way for each of these READs, in their order.
     pub(crate) fn dependences(&self) -> Dependences
         ensures writers { edges result.writers ≡ steps Towards.Writers self.now.entries.now (length self.now.entries.now) }
         ensures readers { edges result.readers ≡ steps Towards.Readers self.now.entries.now (length self.now.entries.now) }

@@ -4,7 +4,7 @@ ghost use Rattle.digest.specs.Links.{Linked};
 ghost use Rattle.answers.specs.Questions.{own_node, writ_node};
 
 use digest::{Entry, Listing};
-use reach::PLACES;
+use reach::{PLACES, node_of};
 
 // The entries of a file, listed by owner, and with the WRITs listed by card.
 #[derive(Drop)]
@@ -19,17 +19,18 @@ pub(crate) struct Listed<'a, W: Listing> {
 }
 
 // The node of a WRIT's card, and one for all other entries.
-pub(crate) fn node_of(entry: &Entry) -> usize
+pub(crate) fn card_node(entry: &Entry) -> usize
     ensures { result ≡ writ_node entry.now }
 {
     if entry.is_writ() {
-        entry.card.0 as usize % PLACES
+        node_of(entry.card.0)
     } else {
         PLACES - 1
     }
 }
 
 impl<'a, W: Listing> Listed<'a, W> {
+    // Lists the entries, from the oldest on.
     pub(crate) fn new(entries: &'a [Entry]) -> Listed<'a, W>
         requires { (Sound entries.now) × (length entries.now ≤ 2048) }
         ensures { result.entries.now ≡ entries.now }
@@ -38,7 +39,7 @@ impl<'a, W: Listing> Listed<'a, W> {
         let mut writs = W::empty();
         for entry in entries {
             own.list(entry.owner as usize);
-            writs.list(node_of(entry));
+            writs.list(card_node(entry));
         }
         Listed {
             entries,

@@ -12,12 +12,11 @@ impl<W: Listing> Listed<'_, W> {
     // The three answers: on dirty reads from the entries, on the others from a search from each transaction for those that it depends on.
     pub(crate) fn verdict(
         &self,
-        dones: &[Option<u16>],
+        dones: &[Option<u16>; PLACES],
         dependences: &Dependences,
         marks: &mut [u32],
     ) -> Verdict
-        requires dones { length self.now.entries.now ≤ length dones.now }
-        requires long { length self.now.entries.now ≤ length marks.old }
+        requires { length self.now.entries.now ≤ length marks.old }
         ensures aca { result.aca ≡ not (some_below (dirty self.now.entries.now dones.now) (length self.now.entries.now)) }
         ensures cons { Snapshots self.now.entries.now (edges dependences.now.writers) (length self.now.entries.now) (length self.now.entries.now) result.cons }
         ensures wcf { Conflicts self.now.entries.now dones.now (edges dependences.now.writers) (edges dependences.now.readers) (length self.now.entries.now) (length self.now.entries.now) result.wcf }

@@ -4,7 +4,7 @@ ghost use Rattle.answers.specs.Questions.{outdated as has-outdated, stale as is-
 use super::listed::Listed;
 use super::marks::is_marked;
 use digest::{Entry, Listing};
-use reach::{PLACES, Places};
+use reach::{Places, node_of};
 
 impl<W: Listing> Listed<'_, W> {
     // Whether a marked transaction wrote a newer version of the card than the version read. The card's WRITs come from the newest on,
@@ -12,7 +12,7 @@ impl<W: Listing> Listed<'_, W> {
     fn outdated(&self, marks: &[u32], read: &Entry) -> bool
         ensures { result ≡ has-outdated self.now.entries.now marks.now read.now }
     {
-        for place in Places::from_node(&self.writs, read.card.0 as usize % PLACES) {
+        for place in Places::from_node(&self.writs, node_of(read.card.0)) {
             if place < read.version as usize {
                 return false;
             }

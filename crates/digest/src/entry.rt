@@ -1,3 +1,6 @@
+ghost use Rattle.std.specs.Prelude.{◌≡◌};
+ghost use Rattle.digest.specs.Entries.{blank};
+
 use records::Kind;
 use stamps::{CardNo, TxNo};
 
@@ -13,15 +16,22 @@ pub struct Entry {
     pub version: u16,
 }
 
-impl Default for Entry {
+impl Entry {
     // An entry for no record.
-    fn default() -> Entry {
-        Entry {
-            kind: Kind::Read,
-            transaction: TxNo(0),
-            card: CardNo(0),
-            owner: 0,
-            version: 0,
-        }
+    pub const BLANK: Entry = Entry {
+        kind: Kind::Read,
+        transaction: TxNo(0),
+        card: CardNo(0),
+        owner: 0,
+        version: 0,
+    };
+}
+
+// By hand, since no kind of record is the usual one.
+impl Default for Entry {
+    fn default() -> Entry
+        ensures { result ≡ blank }
+    {
+        Entry::BLANK
     }
 }

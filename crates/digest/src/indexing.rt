@@ -19,10 +19,10 @@ pub fn index<W: Listing>(file: &[u8]) -> ArrayVec<Entry, PLACES>
     let mut register = Register::<W>::new();
     for part in RecordReader::new(file) {
         if register.is_full() {
-            return register.into_entries();
+            break;
         }
         let Ok(line) = Line::decode(part) else {
-            return register.into_entries();
+            break;
         };
         register.push(&line);
     }

@@ -1,12 +1,12 @@
 // What the judge keeps of the first records of a file.
-ghost use Rattle.std.specs.Prelude.{◌≡◌, ◌%◌, ◌<◌, ◌≤◌, ◌==◌, [], ◌∷◌, ◌++◌, length};
+ghost use Rattle.std.specs.Prelude.{◌≡◌, ◌<◌, ◌≤◌, ◌==◌, [], ◌∷◌, ◌++◌, length};
 ghost use Rattle.digest.specs.Entries.{owner_in, version_in, version_of as version-told, entry_of as entry-told};
 ghost use Rattle.digest.specs.Links.{tx_node, Linked};
 
 use super::entry::Entry;
 use super::listing::Listing;
 use arrayvec::ArrayVec;
-use reach::{PLACES, Places};
+use reach::{PLACES, Places, node_of};
 use records::{Kind, Line};
 use stamps::{CardNo, TxNo};
 
@@ -17,13 +17,6 @@ pub(crate) struct Register<W: Listing> {
     transactions: W,
     ghost room: { length entries.items ≤ 2048 },
     ghost linked: { Linked (W.count transactions) (W.comes transactions) tx_node entries.items (length entries.items) },
-}
-
-// The node of a transaction. Others may share it.
-fn node_of(transaction: TxNo) -> usize
-    ensures { result ≡ transaction.0 % 2048 }
-{
-    transaction.0 as usize % PLACES
 }
 
 impl<W: Listing> Register<W> {
@@ -51,7 +44,7 @@ impl<W: Listing> Register<W> {
     {
         let entry = self.entry_of(line);
         self.entries.push(entry);
-        self.transactions.list(node_of(line.transaction));
+        self.transactions.list(node_of(line.transaction.0));
     }
 
     // The entries.
@@ -69,7 +62,7 @@ impl<W: Listing> Register<W> {
     fn owner_of(&self, transaction: TxNo) -> u16
         ensures { result ≡ owner_in self.now.entries.items transaction.0 (length self.now.entries.items) }
     {
-        for place in Places::from_node(&self.transactions, node_of(transaction)) {
+        for place in Places::from_node(&self.transactions, node_of(transaction.0)) {
             let entry = self.entries[place];
             if entry.transaction == transaction {
                 return entry.owner;
@@ -82,7 +75,7 @@ impl<W: Listing> Register<W> {
     fn version_by(&self, card: CardNo, transaction: TxNo) -> u16
         ensures { result ≡ version_in self.now.entries.items card.0 transaction.0 (length self.now.entries.items) }
     {
-        for place in Places::from_node(&self.transactions, node_of(transaction)) {
+        for place in Places::from_node(&self.transactions, node_of(transaction.0)) {
             if self.entries[place].wrote(card, transaction) {
                 return (place + 1) as u16;
             }

@@ -1,12 +1,13 @@
-// Reachability: which nodes of a graph can be come to from a node. Two calls ask something of their caller: `Graph::search` clear marks and
-// an empty queue, and `Queue::clear` a queue that holds every marked node, as a search leaves it.
+// Reachability: which nodes of a graph can be come to from a node. Three calls ask something of their caller: `Graph::search` clear marks and
+// an empty queue, `Queue::clear` a queue that holds every marked node, as a search leaves it, and `Places::older_than` a place that comes
+// from the node.
 #![tactic(auto)]
 
 pub mod graph;
 mod queue;
 mod walk;
 
-pub use graph::{Graph, PLACES};
+pub use graph::{Graph, PLACES, node_of};
 pub use queue::Queue;
 pub use walk::{Places, Walk};
 

@@ -15,10 +15,9 @@ pub trait Walk {
     fn newest_from(&self, node: usize) -> Option<usize>
         ensures { result ≡ first (picks (comes self.now node) (count self.now)) };
 
-    // The next older place that comes from the same node as this place.
+    // The next older place that comes from the same node as this place; of a place past the last any answer will do.
     fn next_older(&self, place: usize) -> Option<usize>
-        requires { place < count self.now }
-        ensures { (node : ℕ) → comes self.now node place ≡ true → result ≡ first (picks (comes self.now node) place) };
+        ensures { (node : ℕ) → place < count self.now → comes self.now node place ≡ true → result ≡ first (picks (comes self.now node) place) };
 }
 
 // The places that come from a node, newest first.

@@ -1,4 +1,4 @@
-ghost use Rattle.std.specs.Prelude.{◌≡◌, ◌+◌, ◌<◌, ◌≤◌, [], ◌∷◌, ◌++◌, length, if◌then◌else◌};
+ghost use Rattle.std.specs.Prelude.{◌≡◌, ◌<◌, [], ◌∷◌, ◌++◌, length, if◌then◌else◌};
 ghost use Rattle.reach.specs.Links.{places, leaves, picks, behind};
 ghost use Rattle.reach.specs.Paths.{edges, taken, Edge, Reached};
 ghost use Rattle.reach.specs.Searches.{Room, Found, Closed, Clear, Listed};
@@ -102,6 +102,6 @@ impl Walk for Graph {
     }
 
     fn next_older(&self, place: usize) -> Option<usize> {
-        self.edges[place].older.map(usize::from)
+        self.edges.get(place)?.older.map(usize::from)
     }
 }

@@ -1,4 +1,4 @@
-ghost use Rattle.std.specs.Prelude.{◌≡◌, ◌<◌, ◌≤◌, [], length};
+ghost use Rattle.std.specs.Prelude.{◌≡◌, ◌<◌, [], length};
 ghost use Rattle.reach.specs.Links.{places};
 ghost use Rattle.reach.specs.Paths.{Marked};
 ghost use Rattle.reach.specs.Searches.{Room, Found, Is, Clear, Listed};

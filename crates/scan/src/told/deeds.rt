@@ -4,26 +4,19 @@ ghost use Rattle.records.specs.declared.line.Line.{Line as OneLine};
 ghost use Rattle.records.specs.Format.{decoded};
 ghost use Rattle.records.specs.Parts.{part};
 ghost use Rattle.rules.specs.Rules.{some, ends, unended};
-ghost use Rattle.scan.specs.Scanning.{lines_of, deed_told, node};
+ghost use Rattle.scan.specs.Scanning.{lines_of, deed_told};
 
 use super::Told;
 use crate::deed::Deed;
-use reach::PLACES;
+use reach::node_of;
 use stamps::TxNo;
-
-// The node under which the records of a transaction are linked. Others may share it.
-pub(super) fn node_of(by: TxNo) -> usize
-    ensures { result ≡ node by.0 }
-{
-    by.0 as usize % PLACES
-}
 
 impl Told<'_> {
     // Whether some record tells it of a transaction.
     pub(super) fn tells(&self, by: TxNo, deed: Deed) -> bool
         ensures { result ≡ some (deed_told deed by.0) (lines_of self.now.file.now self.now.count) }
     {
-        for place in self.links.edges_from(node_of(by)) {
+        for place in self.links.edges_from(node_of(by.0)) {
             if self.record(place).shows(by, deed) {
                 return true;
             }

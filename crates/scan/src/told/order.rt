@@ -7,9 +7,8 @@ ghost use Rattle.rules.specs.Rules.{after_record, kind_in_place, in_place, scann
 ghost use Rattle.scan.specs.Scanning.{lines_of, Scanned, answered};
 
 use super::Told;
-use super::deeds::node_of;
 use crate::deed::Deed;
-use reach::Graph;
+use reach::{Graph, node_of};
 use records::{Kind, Line, RecordReader};
 use rules::JudgeFault;
 
@@ -44,7 +43,7 @@ impl<'a> Told<'a> {
         if !self.is_in_place(&line) {
             return Err(JudgeFault::OutOfPlace(place));
         }
-        let _ = self.links.add(node_of(line.transaction), place);
+        let _ = self.links.add(node_of(line.transaction.0), place);
         self.count = place + 1;
         Ok(())
     }

@@ -17,7 +17,7 @@ loop-earlier-init g c =
     let bs = c.args.known.now.backward.now in
     let n = c.args.place in
     let e = at es n in
-    (tt, tt, ahead_all (g.W.Walk.count r.writs) (g.W.Walk.comes r.writs) writ_node es r.cards (λ j. rivals e (at es j) && apart ds fs bs (at es j).owner) (writ_node e) n (omega (arith, c.requires.within)) (only_rivals es ds fs bs e c.requires.writ) _ (rw c.into_iter-earlier-iterator.ensures.into_iter_gives (c.older_than-earlier-items.ensures ∙ ap (λ m. picks (g.W.Walk.comes r.writs m) n) c.node_of.ensures)))
+    (tt, tt, ahead_all (g.W.Walk.count r.writs) (g.W.Walk.comes r.writs) writ_node es r.cards (λ j. rivals e (at es j) && apart ds fs bs (at es j).owner) (writ_node e) n (omega (arith, c.requires.within)) (only_rivals es ds fs bs e c.requires.writ) _ (rw c.into_iter-earlier-iterator.ensures.into_iter_gives (c.older_than-earlier-items.ensures ∙ ap (λ m. picks (g.W.Walk.comes r.writs m) n) c.card_node.ensures)))
 
 pub bounds-self-earlier : goal.bounds-self-earlier
 bounds-self-earlier g c =
@@ -86,4 +86,4 @@ older_than-earlier-items-requires g c =
     let bs = c.args.known.now.backward.now in
     let n = c.args.place in
     let e = at es n in
-    record { inside = omega (arith, c.requires.within, r.cards.each); comes = rw c.node_of.ensures (r.cards.by n c.requires.within) }
+    record { inside = omega (arith, c.requires.within, r.cards.each); comes = rw c.card_node.ensures (r.cards.by n c.requires.within) }

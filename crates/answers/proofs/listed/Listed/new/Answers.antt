@@ -25,7 +25,7 @@ loop-entry-preserved g c =
     let n = c.loop-entry.entry-index in
     rw add-one (record {
       owners = linked_more _ _ _ _ own_node es n c.loop-entry.invariant.owners (record { more = c.list.ensures.more; here = c.list.ensures.here; kept = c.list.ensures.kept });
-      cards = linked_more _ _ _ _ writ_node es n c.loop-entry.invariant.cards (rw (← c.node_of.ensures) (record {
+      cards = linked_more _ _ _ _ writ_node es n c.loop-entry.invariant.cards (rw (← c.card_node.ensures) (record {
         more = c.list-in-loop-entry.ensures.more;
         here = c.list-in-loop-entry.ensures.here;
         kept = c.list-in-loop-entry.ensures.kept;
@@ -41,5 +41,5 @@ list-requires-clause-known g c = omega (arith, c.requires.0.owner c.loop-entry.e
 pub list-requires-in-loop-entry : goal.list-requires-in-loop-entry
 list-requires-in-loop-entry g c = record {
   room = omega (arith, c.loop-entry.invariant.cards.each, c.loop-entry-test.true, c.requires.1);
-  known = rw c.node_of.ensures (node_small (at c.args.entries.now c.loop-entry.entry-index));
+  known = rw c.card_node.ensures (node_small (at c.args.entries.now c.loop-entry.entry-index));
 }

@@ -14,7 +14,7 @@ loop-place-init g c =
     let es = r.entries.now in
     let ms = c.args.marks.now in
     let read = c.args.read.now in
-    (tt, tt, ahead_all (g.W.Walk.count r.writs) (g.W.Walk.comes r.writs) writ_node es r.cards (λ j. newer (at es j) read && marked ms (at es j).owner) (read.card.0 % 2048) (length es) (omega (arith)) (only_newer es ms read) _ (rw c.into_iter-place-iterator.ensures.into_iter_gives (c.from_node-place-items.ensures ∙ ap (picks (g.W.Walk.comes r.writs (read.card.0 % 2048))) r.cards.each)))
+    (tt, tt, ahead_all (g.W.Walk.count r.writs) (g.W.Walk.comes r.writs) writ_node es r.cards (λ j. newer (at es j) read && marked ms (at es j).owner) (read.card.0 % 2048) (length es) (omega (arith)) (only_newer es ms read) _ (rw c.into_iter-place-iterator.ensures.into_iter_gives (c.from_node-place-items.ensures ∙ ap (λ m. picks (g.W.Walk.comes r.writs m) (g.W.Walk.count r.writs)) c.node_of.ensures ∙ ap (picks (g.W.Walk.comes r.writs (read.card.0 % 2048))) r.cards.each)))
 
 pub bounds-self-place : goal.bounds-self-place
 bounds-self-place g c =

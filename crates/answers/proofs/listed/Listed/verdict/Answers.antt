@@ -36,7 +36,7 @@ loop-owner-preserved g c =
     elim c.if-entry-owner.branch [
       | then-entry-owner w ↦
           let ms = w.search.new.marks in
-          let long : m ≤ length ms = omega (arith, w.search.auto.marks, inv.marks, c.fill.ensures.len, c.requires.long) in
+          let long : m ≤ length ms = omega (arith, w.search.auto.marks, inv.marks, c.fill.ensures.len, c.requires) in
           let snap : Snapshot es gs m n w.stale.result = record { marks = ms; reached = w.search.ensures.reached; long = long; tells = sym w.stale.ensures } in
           let conf : Conflict es ds gs hs m n w.conflicting.result = record { forward = ms; reached = w.search.ensures.reached; long = long; asked = w.conflicting.ensures } in
           record {

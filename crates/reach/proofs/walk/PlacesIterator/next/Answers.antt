@@ -13,7 +13,7 @@ invariant_of-self g c =
     let here = s.inside c.in_ok-place.place c.in_ok-place.was in
     record {
       inside = λ place e.
-          let h = first_inside q c.in_ok-place.place place (sym (c.next_older-self.ensures s.node here.1) ∙ e) in
+          let h = first_inside q c.in_ok-place.place place (sym (c.next_older-self.ensures s.node here.0 here.1) ∙ e) in
           (omega (arith, h.0, here.0), h.1);
     }
 
@@ -21,15 +21,12 @@ pub returns-clause-steps : goal.returns-clause-steps
 returns-clause-steps g c =
     let s = c.args.self.now in
     let here = s.inside c.in_ok-place.place c.in_ok-place.was in
-    step (g.W.Walk.comes s.walk.now s.node) s.next c.next_older-self.result c.in_ok-place.place c.in_ok-place.was (c.next_older-self.ensures s.node here.1)
+    step (g.W.Walk.comes s.walk.now s.node) s.next c.next_older-self.result c.in_ok-place.place c.in_ok-place.was (c.next_older-self.ensures s.node here.0 here.1)
 
 pub returns-clause-goes : goal.returns-clause-goes
 returns-clause-goes g c =
     let s = c.args.self.now in
     let q = g.W.Walk.comes s.walk.now s.node in
     let here = s.inside c.in_ok-place.place c.in_ok-place.was in
-    let e : behind q s.next ≡ c.in_ok-place.place ∷ behind q c.next_older-self.result = step q s.next c.next_older-self.result c.in_ok-place.place c.in_ok-place.was (c.next_older-self.ensures s.node here.1) in
+    let e : behind q s.next ≡ c.in_ok-place.place ∷ behind q c.next_older-self.result = step q s.next c.next_older-self.result c.in_ok-place.place c.in_ok-place.was (c.next_older-self.ensures s.node here.0 here.1) in
     record { on = λ _. (tt, tt, omega (arith, ap length e)); keeps = tt; rests = λ _. tt }
-
-pub next_older-self-requires : goal.next_older-self-requires
-next_older-self-requires g c = (c.args.self.now.inside c.in_ok-place.place c.in_ok-place.was).0

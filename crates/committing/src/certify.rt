@@ -22,6 +22,7 @@ fn is_current<S: Shelf>(shelf: &S, here: OpenAt<'_>, card: CardNo) -> bool
 pub fn is_outdated<S: Shelf>(shelf: &S, here: OpenAt<'_>) -> bool
     ensures { result ≡ outdated (S.meaning shelf.now) (seat here.entry).reads (seat here.entry).drafts }
 {
+    // Counted beside the walk, as certification is told.
     let mut stale: usize = 0;
     for draft in here.drafts() {
         if !is_current(shelf, here, draft.card) {

@@ -49,8 +49,8 @@ fn letters_of(heap: Global, file: &[u8], marks: usize) -> Result<Letters, Stop> 
     let depends = Dependence::of(heap, &tables)?;
     Ok(Letters {
         aca: tables.committed_reads,
-        cons: snapshots_are_consistent(&tables, &depends),
-        wcf: no_writers_conflict(&tables, &depends),
+        cons: depends.snapshots_are_consistent(),
+        wcf: depends.no_writers_conflict(),
     })
 }
 
@@ -106,19 +106,24 @@ fn bad_record(fault: RecordFault, place: usize) -> Refusal {
 
 // Who depends on whom: the transactions are numbered in rising order, and a matrix has a row and a column for each.
 #[derive(Drop)]
-struct Dependence {
+struct Dependence<'a> {
+    tables: &'a Tables,
     numbers: BTreeMap<TxNo, usize>,
     matrix: Matrix,
 }
 
-impl Dependence {
-    fn of(heap: Global, tables: &Tables) -> Result<Dependence, AllocError> {
+impl<'a> Dependence<'a> {
+    fn of(heap: Global, tables: &'a Tables) -> Result<Dependence<'a>, AllocError> {
         let mut numbers = BTreeMap::new(heap);
         for (number, transaction) in tables.firsts.keys().enumerate() {
             numbers.insert(*transaction, number)?;
         }
         let matrix = Matrix::blank(heap, numbers.len())?;
-        let mut dependence = Dependence { numbers, matrix };
+        let mut dependence = Dependence {
+            tables,
+            numbers,
+            matrix,
+        };
         for (reader, writer) in tables.reads.iter() {
             dependence.step(reader.transaction, *writer);
         }
@@ -144,46 +149,46 @@ impl Dependence {
             _ => false,
         }
     }
-}
 
-// Where the WRIT of a version stands that this writer wrote; none for version 0.
-fn source(tables: &Tables, writer: TxNo, card: CardNo) -> Option<usize> {
-    tables
-        .writs
-        .get(&Use {
-            transaction: writer,
-            card,
+    // Where the WRIT of a version stands that this writer wrote; none for version 0.
+    fn source(&self, writer: TxNo, card: CardNo) -> Option<usize> {
+        self.tables
+            .writs
+            .get(&Use {
+                transaction: writer,
+                card,
+            })
+            .copied()
+    }
+
+    // No transaction depends on the writer of a newer version of a card than it read.
+    fn snapshots_are_consistent(&self) -> bool {
+        self.tables.reads.iter().all(|(read, writer)| {
+            let version = self.source(*writer, read.card);
+            self.tables.writs.iter().all(|(written, place)| {
+                written.card != read.card
+                    || version.is_some_and(|other| *place <= other)
+                    || !self.leads(read.transaction, written.transaction)
+            })
         })
-        .copied()
-}
+    }
 
-// No transaction depends on the writer of a newer version of a card than it read.
-fn snapshots_are_consistent(tables: &Tables, depends: &Dependence) -> bool {
-    tables.reads.iter().all(|(read, writer)| {
-        let version = source(tables, *writer, read.card);
-        tables.writs.iter().all(|(written, place)| {
-            written.card != read.card
-                || version.is_some_and(|other| *place <= other)
-                || !depends.leads(read.transaction, written.transaction)
+    // Of every two done writers of one card one depends on the other.
+    fn no_writers_conflict(&self) -> bool {
+        self.tables.writs.keys().all(|one| {
+            self.tables.writs.keys().all(|other| {
+                one.card != other.card
+                    || one.transaction >= other.transaction
+                    || !self.conflict(one.transaction, other.transaction)
+            })
         })
-    })
-}
+    }
 
-// Of every two done writers of one card one depends on the other.
-fn no_writers_conflict(tables: &Tables, depends: &Dependence) -> bool {
-    tables.writs.keys().all(|one| {
-        tables.writs.keys().all(|other| {
-            one.card != other.card
-                || one.transaction >= other.transaction
-                || !conflict(tables, depends, one.transaction, other.transaction)
-        })
-    })
-}
-
-// Both are done, and neither depends on the other.
-fn conflict(tables: &Tables, depends: &Dependence, one: TxNo, other: TxNo) -> bool {
-    tables.is_done(one)
-        && tables.is_done(other)
-        && !depends.leads(one, other)
-        && !depends.leads(other, one)
+    // Both are done, and neither depends on the other.
+    fn conflict(&self, one: TxNo, other: TxNo) -> bool {
+        self.tables.is_done(one)
+            && self.tables.is_done(other)
+            && !self.leads(one, other)
+            && !self.leads(other, one)
+    }
 }

@@ -79,10 +79,10 @@ impl Session {
     fn commit<S: Shelf>(&mut self, shelf: &mut S, number: TxNo) -> Answer
         ensures { Replied (S.meaning shelf.old) (held self.old) (commands.Commit number) result (S.meaning shelf.new) (held self.new) }
     {
-        let Some(slip) = take_slip(&mut self.slips, number) else {
+        let Some(handed) = take_slip(&mut self.slips, number) else {
             return Answer::NoSlip;
         };
-        let committed = self.catalogue.commit(shelf, slip);
+        let committed = self.catalogue.commit(shelf, handed);
         let decided = keep_returned(&mut self.slips, committed);
         Answer::Call(Event::Commit(number, decided))
     }

@@ -39,7 +39,7 @@ fn answer_all<S: Shelf>(
     requires { (held session.old).slips ≡ [] }
     ensures { IfOk result (λ v. Ran (S.meaning shelf.old) (held session.old).books script.now v.items (S.meaning shelf.new) (held session.new)) }
 {
-    // a `for`, since a chain's closure would change the session and the shelf, of which no proof would know what they became
+    // A `for`, since a chain's closure would change the session and the shelf, of which no proof would know what they became.
     let mut answers = Vec::new(heap);
     for command in script {
         let answer = session.answer(heap, shelf, *command)?;

@@ -25,7 +25,7 @@ pub struct OpenTable {
     // As wide as there were cards at set-up.
     reads: Rows<ReadEntry>,
     drafts: Rows<DraftEntry>,
-    // How many places are in use: none before set-up.
+    // How many places are in use: none before set-up, and then at most sixteen, however long the list is.
     used: usize,
     ghost listed: { used ≤ vec_len places },
     ghost read: { used * reads.width ≤ vec_len reads.items },

@@ -17,7 +17,7 @@ pub struct Trial {
     pub marks: usize,
 }
 
-// What is done to one of the largest files.
+// What is done to one of the largest files. A value and no closure, since a list names them.
 #[derive(Clone, Copy)]
 pub enum Edge {
     Whole,

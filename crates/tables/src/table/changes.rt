@@ -96,7 +96,7 @@ impl OpenTable {
     pub fn clear(&mut self)
         ensures { table_of self.new ≡ with_list (table_of self.old) (replicate (length (list_of self.old)) None) }
     {
-        // place by place, since no proof knows the list after a `fill` of its part
+        // Place by place, since no proof knows the list after a `fill` of its part.
         for place in 0..self.used {
             self.release(place);
         }

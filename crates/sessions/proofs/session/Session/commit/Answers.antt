@@ -11,6 +11,6 @@ returns-in_default g c =
 pub returns : goal.returns
 returns g c =
     commit_replied (g.S.Shelf.meaning c.args.shelf.now) (g.S.Shelf.meaning c.commit-committed.new.shelf) (kept c.args.self.now.catalogue) (kept c.commit-committed.new.self)
-    (vec_items c.args.self.now.slips) (vec_items c.keep_returned-decided.new.slips) (vec_items c.take_slip.new.slips) c.args.number c.in-Some.slip c.commit-committed.result
+    (vec_items c.args.self.now.slips) (vec_items c.keep_returned-decided.new.slips) (vec_items c.take_slip.new.slips) c.args.number c.in-Some.handed c.commit-committed.result
     c.keep_returned-decided.result c.in-Some.ensures.taken.0 c.in-Some.ensures.taken.1 c.take_slip.ensures.rest c.commit-committed.ensures.answer
     c.commit-committed.ensures.shelf c.commit-committed.ensures.books c.keep_returned-decided.ensures.decided c.keep_returned-decided.ensures.kept

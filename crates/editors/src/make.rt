@@ -53,6 +53,7 @@ fn split(
 // The most cards that a shelf has: no memory is asked for what does not fit anyway.
 const MOST_CARDS: u32 = 256;
 
+// The store's program asks for the memory of any size, so the two are not one.
 fn placed<D: Drawers>(heap: Global, size: Size) -> Result<Fitted<PlacedShelf<D>>, AllocError> {
     let cards = size.cards.min(MOST_CARDS);
     let memory = D::reserve(heap, cards, size.places.min(D::MOST_PLACES))?;

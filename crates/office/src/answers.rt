@@ -56,6 +56,7 @@ fn made(heap: Global, make: Make) -> Result<Fitted<Held>, AllocError> {
     })
 }
 
+// With memory for any size: a size that does not fit is told by the shelf.
 fn placed<D: Drawers>(heap: Global, size: Size) -> Result<Fitted<PlacedShelf<D>>, AllocError> {
     let memory = D::reserve(heap, size.cards, size.places)?;
     Ok(placed_shelf(memory, size))

@@ -27,10 +27,7 @@ impl Dice {
     pub fn below(&mut self, n: u32) -> u32
         ensures { 0 < n → result < n }
     {
-        if n == 0 {
-            return 0;
-        }
-        (self.throw() % u64::from(n)) as u32
+        self.place(n as usize) as u32
     }
 
     // A place below n; 0 where n is 0, likewise.

@@ -8,7 +8,8 @@ use std::alloc::AllocError;
 // A card that no script touches.
 const FOREIGN_CARD: CardNo = CardNo(200);
 
-// What can be wrong with the lines of a history. A value and no closure, since dice choose among them.
+// What can be wrong with the lines of a history. A value and no closure, since dice choose among them. Lines and dice go through all that is done below
+// side by side: one value of both would be two loans under a name.
 #[derive(Clone, Copy)]
 pub enum Misplaced {
     SecondRead,

@@ -1,4 +1,4 @@
-ghost use Rattle.std.specs.Prelude.{◌<◌};
+ghost use Rattle.std.specs.Prelude.{◌≡◌, ◌<◌};
 
 // Numbers that look random, each made from the one before: the same seed gives the same numbers. The stored answers were made with these,
 // so they are no others' dice.
@@ -32,7 +32,8 @@ impl Dice {
 
     // A place below n; 0 where n is 0, likewise.
     pub fn place(&mut self, n: usize) -> usize
-        ensures { 0 < n → result < n }
+        ensures some { 0 < n → result < n }
+        ensures none { n ≡ 0 → result ≡ 0 }
     {
         if n == 0 {
             return 0;

@@ -2,7 +2,7 @@
 #![tactic(auto)]
 
 mod asks;
-mod entry;
+pub mod entry;
 mod indexing;
 mod listing;
 mod register;

@@ -54,7 +54,12 @@ impl Stamp {
         ensures same { counts_at result ≡ entries self.now }
         ensures small { all_small result ≡ true }
     {
-        self.counts.map(u32::from)
+        // By a loop: tried with the array's `map`, which goes an `Option` at a time, a list takes 670 ns in place of 67, and a commit twice as long.
+        let mut list = [0; ROOM];
+        for (i, count) in self.counts.iter().enumerate() {
+            list[i] = u32::from(*count);
+        }
+        list
     }
 
     // The greater count of the two at each card.

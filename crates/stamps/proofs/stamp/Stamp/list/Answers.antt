@@ -1,22 +1,18 @@
-use Rattle.std.proofs.Common.{◌≡◌, ℕ, ◌<◌, ◌≤◌, get_or, sym, ◌∙◌, ⊎_elim, arith, rules}
+use Rattle.std.proofs.Common.{◌≡◌, ℕ, ◌<◌, length, get_or, refl, ◌∙◌, arith}
 use mathlib.Core.Path.{fun_ext}
-use Rattle.std.proofs.lemmas.Bool.{cases_lt}
-use Rattle.std.proofs.lemmas.List.{get_or_past}
-use Rattle.stamps.proofs.Zeros.{small_from}
+use Rattle.stamps.proofs.Zeros.{copied_none, copied_all, small_from}
 use Rattle.stamps.proofs.stamp.Stamp.list.Goals as goal
 
--- each count is copied, and no count is past the end of either list
-copied : (c : goal.After-map) (i : ℕ) → get_or c.map.result i 0 ≡ get_or c.args.self.now.counts i 0
-copied c i =
+pub loop-i-init : goal.loop-i-init
+loop-i-init c = (refl, copied_none c.args.self.now.counts)
+
+pub returns : goal.returns
+returns c =
     let s = c.args.self.now in
-    let long = c.map.ensures.items.long in
-    ⊎_elim
-    (λ (low : i < 256). let called = c.map.ensures.items.at i 0 0 low in search rules)
-    (λ (high : 256 ≤ i). get_or_past c.map.result i 0 (omega arith) ∙ sym (get_or_past s.counts i 0 (omega (arith, s.full))))
-    (cases_lt i 256)
-
-pub returns-clause-same : goal.returns-clause-same
-returns-clause-same c = fun_ext (copied c)
-
-pub returns-clause-small : goal.returns-clause-small
-returns-clause-small c = small_from c.map.result (λ i h. omega (arith, copied c i, c.args.self.now.small i))
+    let same : (k : ℕ) → get_or c.loop-i.list k 0 ≡ get_or s.counts k 0 =
+    λ k. c.loop-i.invariant.1 k ∙ copied_all s.counts c.loop-i.i k (omega (arith, s.full)) in
+    record {
+      full = c.loop-i.invariant.0;
+      same = fun_ext same;
+      small = small_from c.loop-i.list (λ i (h : i < length c.loop-i.list). omega (arith, same i, s.small i));
+    }

@@ -19,28 +19,30 @@ pub record Glanced (bs : List ℕ) (l : Line) : Type 0 where
   pub sized : eqb (length bs) record_size ≡ true
   pub transaction : transaction_in bs ≡ l.transaction
   pub card : card_in bs ≡ l.card
+  pub kind : kind_of bs ≡ Some l.kind
   pub good : fault_of l ≡ None
 
 pub glanced : (bs : List ℕ) (l : Line) → decoded bs ≡ Ok l → Glanced bs l
 glanced bs l e = long (eqb (length bs) record_size) refl e
   where
-    told : (k : Kind) (f : Option RecordFault) → eqb (length bs) record_size ≡ true → fault_of (line_of k bs) ≡ f → tested (line_of k bs) f ≡ Ok l → Glanced bs l
-    told k None size none q =
+    told : (k : Kind) (f : Option RecordFault) → kind_of bs ≡ Some k → eqb (length bs) record_size ≡ true → fault_of (line_of k bs) ≡ f → tested (line_of k bs) f ≡ Ok l → Glanced bs l
+    told k None kind size none q =
         let here : line_of k bs ≡ l = cc in
         record {
           sized = size;
           transaction = (λ i. record { 0 = sym (number_behind bs 4 0 4) i }) ∙ ap (λ (m : Line). m.transaction) here;
           card = (λ i. record { 0 = sym (number_behind bs 4 4 4) i }) ∙ ap (λ (m : Line). m.card) here;
+          kind = kind ∙ ap (λ (m : Line). Some m.kind) here;
           good = subst (λ (m : Line). fault_of m ≡ None) here none;
         }
-    told k (Some f) size none q = let z : ◌≡◌ {A = ℕ} 0 1 = cc in absurd (omega arith)
+    told k (Some f) kind size none q = let z : ◌≡◌ {A = ℕ} 0 1 = cc in absurd (omega arith)
 
-    kinds : (k : Option Kind) → eqb (length bs) record_size ≡ true → read_as bs k ≡ Ok l → Glanced bs l
-    kinds (Some k) size q = told k (fault_of (line_of k bs)) size refl q
-    kinds None size q = let z : ◌≡◌ {A = ℕ} 0 1 = cc in absurd (omega arith)
+    kinds : (k : Option Kind) → kind_of bs ≡ k → eqb (length bs) record_size ≡ true → read_as bs k ≡ Ok l → Glanced bs l
+    kinds (Some k) kind size q = told k (fault_of (line_of k bs)) kind size refl q
+    kinds None kind size q = let z : ◌≡◌ {A = ℕ} 0 1 = cc in absurd (omega arith)
 
     long : (b : Bool) → eqb (length bs) record_size ≡ b → cond b (read_as bs (kind_of bs)) (Err faults.Length) ≡ Ok l → Glanced bs l
-    long true size q = kinds (kind_of bs) size q
+    long true size q = kinds (kind_of bs) refl size q
     long false size q = let z : ◌≡◌ {A = ℕ} 0 1 = cc in absurd (omega arith)
 
 -- a line without a fault has a fit card

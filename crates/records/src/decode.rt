@@ -19,6 +19,7 @@ pub(crate) fn field<const N: usize>(bytes: &[u8], at: usize) -> [u8; N]
 impl Line {
     // The line that a record's bytes write: `Length` at another length than a record's, else the first bad field.
     // What is read is written back as the same bytes.
+    #[inline(always)]
     pub fn decode(bytes: &[u8]) -> Result<Line, RecordFault>
         ensures value { result ≡ decoded bytes.now }
         ensures back { IfOk result (λ l. encoded l ≡ bytes.now) }
@@ -36,6 +37,7 @@ impl Line {
     }
 
     // The line of the record at this place of a file, or its fault and the place.
+    #[inline(always)]
     pub fn decode_at(bytes: &[u8], place: usize) -> Result<Line, PlacedFault>
         ensures { result ≡ placed_at place (decoded bytes.now) }
     {

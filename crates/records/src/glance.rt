@@ -1,9 +1,10 @@
 ghost use Rattle.std.specs.Prelude.{◌≡◌, ◌+◌, ◌≤◌, true, length, if◌then◌else◌, Some, None, Ok, nat_eq};
 ghost use Rattle.records.specs.declared.line.Line.{Line as OneLine};
-ghost use Rattle.records.specs.Format.{record_size, number_at, transaction_in, card_in, good_card, decoded};
+ghost use Rattle.records.specs.Format.{record_size, number_at, kind_of, transaction_in, card_in, good_card, decoded};
 
 use super::RECORD_SIZE;
 use super::decode::field;
+use super::kind::Kind;
 use super::line::Line;
 use stamps::{CardNo, TxNo};
 
@@ -19,6 +20,24 @@ fn number_in(bytes: &[u8], at: usize) -> Option<u32>
 }
 
 impl Line {
+    // The kind whose letters a record's bytes begin with, if any, whatever its fields are; none at another length than a record's.
+    // It is the kind of the line that the bytes read as.
+    pub fn kind_in(bytes: &[u8]) -> Option<Kind>
+        ensures value { result ≡ (if nat_eq (length bytes.now) record_size then kind_of bytes.now else None) }
+        ensures same { (l : OneLine) → decoded bytes.now ≡ Ok l → result ≡ Some l.kind }
+    {
+        if bytes.len() != RECORD_SIZE {
+            return None;
+        }
+        match bytes {
+            [b'R', b'E', b'A', b'D', ..] => Some(Kind::Read),
+            [b'W', b'R', b'I', b'T', ..] => Some(Kind::Writ),
+            [b'D', b'O', b'N', b'E', ..] => Some(Kind::Done),
+            [b'G', b'O', b'N', b'E', ..] => Some(Kind::Gone),
+            _ => None,
+        }
+    }
+
     // The transaction that stands in a record's bytes, whatever its other fields are; none at another length than a record's.
     // It is the transaction of the line that the bytes read as.
     pub fn transaction_in(bytes: &[u8]) -> Option<TxNo>

@@ -39,6 +39,7 @@ impl Line {
     }
 
     // The line, where no field is bad, or its first bad field.
+    #[inline(always)]
     pub(crate) fn checked(self) -> Result<Line, RecordFault>
         ensures { result ≡ tested self (fault_of self) }
     {

@@ -5,11 +5,13 @@
 --     answered r                  the answer of a test that gives no lines back
 --     deed_told d t l             line l tells the deed d of transaction t
 --     deed_card d                 the card of a line that tells the deed d: an end has card 0
+--     deed_kind d k               a line of kind k tells the deed d, if it is of the right transaction and card
 --     node t                      the node under which the records of transaction t are linked
 --     Seen bs n es                es has an edge from its transaction's node for each of the first n records
 use Rattle.std.specs.Prelude.{◌≡◌, ℕ, zero, suc, ◌%◌, ◌<◌, Bool, true, List, [], ◌++◌, length, is_ok, Ok, Err, Result}
 use Rattle.std.specs.Result.{result_ok}
 use Rattle.std.specs.Option.{option_to_list}
+use Rattle.records.specs.declared.kind.Kind.{Kind}
 use Rattle.records.specs.declared.line.Line.{Line}
 use Rattle.records.specs.Format.{decoded}
 use Rattle.records.specs.Parts.{part}
@@ -17,7 +19,7 @@ use Rattle.rules.specs.declared.judge_fault.JudgeFault.{JudgeFault}
 use Rattle.scan.specs.declared.deed.Deed.{Deed}
 use Rattle.scan.specs.declared.deed.Deed.TheVariants.{Ended, Read, Written}
 use Rattle.reach.specs.Links.{from}
-use Rattle.rules.specs.Rules.{scanned, told, is_read, is_writ, ends}
+use Rattle.rules.specs.Rules.{scanned, told, is_read, is_writ, is_end, ends}
 
 abbrev pub Readable : List ℕ → ℕ → Type 0
 Readable bs n = (i : ℕ) → i < n → is_ok (decoded (part bs i)) ≡ true
@@ -43,6 +45,11 @@ abbrev pub deed_card : Deed → ℕ
 deed_card Ended = 0
 deed_card (Read x) = x.0
 deed_card (Written x) = x.0
+
+abbrev pub deed_kind : Deed → Kind → Bool
+deed_kind Ended k = is_end k
+deed_kind (Read x) k = is_read k
+deed_kind (Written x) k = is_writ k
 
 abbrev pub node : ℕ → ℕ
 node t = t % 2048

@@ -1,9 +1,9 @@
 // What one record tells.
 ghost use Rattle.std.specs.Prelude.{◌≡◌};
-ghost use Rattle.scan.specs.Scanning.{deed_told, deed_card};
+ghost use Rattle.scan.specs.Scanning.{deed_card, deed_kind};
 
-use records::{Kind, Line};
-use stamps::{CardNo, TxNo};
+use records::Kind;
+use stamps::CardNo;
 
 // What is asked of the records before a line: whether a transaction
 #[derive(Clone, Copy)]
@@ -27,15 +27,14 @@ impl Deed {
         }
     }
 
-    // Whether a line tells it of a transaction.
-    pub(crate) fn is_told(self, by: TxNo, line: &Line) -> bool
-        ensures { result ≡ deed_told self by.0 line.now }
+    // Whether a record of this kind tells it, if it is of the right transaction and card.
+    pub(crate) fn is_of(self, kind: Kind) -> bool
+        ensures { result ≡ deed_kind self kind }
     {
-        line.transaction == by
-            && match self {
-                Deed::Ended => matches!(line.kind, Kind::Done | Kind::Gone),
-                Deed::Read(card) => line.kind == Kind::Read && line.card == card,
-                Deed::Written(card) => line.kind == Kind::Writ && line.card == card,
-            }
+        match self {
+            Deed::Ended => matches!(kind, Kind::Done | Kind::Gone),
+            Deed::Read(_) => kind == Kind::Read,
+            Deed::Written(_) => kind == Kind::Writ,
+        }
     }
 }

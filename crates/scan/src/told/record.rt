@@ -7,7 +7,7 @@ ghost use Rattle.scan.specs.Scanning.{deed_told};
 
 use super::Told;
 use crate::deed::Deed;
-use records::{Line, RECORD_SIZE};
+use records::{Kind, Line, RECORD_SIZE};
 use stamps::{CardNo, TxNo};
 
 // The bytes of a record that has no bad field.
@@ -30,10 +30,11 @@ impl<'a> Told<'a> {
 }
 
 impl GoodRecord<'_> {
-    fn line(&self) -> Line
-        ensures { decoded self.now.bytes.now ≡ Ok result }
+    // The kind, without reading the rest of the record.
+    fn kind(&self) -> Kind
+        ensures { (l : OneLine) → decoded self.now.bytes.now ≡ Ok l → l.kind ≡ result }
     {
-        Line::decode(self.bytes).unwrap()
+        Line::kind_in(self.bytes).unwrap()
     }
 
     // The transaction, without reading the rest of the record.
@@ -51,10 +52,10 @@ impl GoodRecord<'_> {
         Line::card_in(self.bytes).unwrap()
     }
 
-    // Whether it tells this of a transaction. A record of another transaction or of another card is passed over.
+    // Whether it tells this of a transaction. No record is read whole again.
     pub(super) fn shows(&self, by: TxNo, deed: Deed) -> bool
         ensures { (l : OneLine) → decoded self.now.bytes.now ≡ Ok l → result ≡ deed_told deed by.0 l }
     {
-        self.transaction() == by && self.card() == deed.card() && deed.is_told(by, &self.line())
+        self.transaction() == by && self.card() == deed.card() && deed.is_of(self.kind())
     }
 }

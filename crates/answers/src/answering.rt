@@ -6,7 +6,8 @@ ghost use Rattle.digest.specs.Entries.{Sound};
 ghost use Rattle.digest.specs.Told.{Told};
 ghost use Rattle.verdicts.specs.Verdicts.{Judged};
 
-use super::listed::Listed;
+use super::dependences::Dependences;
+use super::listed::{Listed, list_all};
 use digest::{Entry, Listing, index};
 use verdicts::Verdict;
 
@@ -36,8 +37,16 @@ fn of_entries<W: Listing>(entries: &[Entry], marks: &mut [u32]) -> Verdict
     requires { (Sound entries.now) × ((length entries.now ≤ 2048) × (length entries.now ≤ length marks.old)) }
     ensures { (ls : List Line) → Told ls entries.now → Judged ls result }
 {
-    let listed = Listed::<W>::new(entries);
+    let mut own = W::empty();
+    let mut writs = W::empty();
+    list_all(entries, &mut own, &mut writs);
+    let listed = Listed {
+        entries,
+        own: &own,
+        writs: &writs,
+    };
     let dones = listed.dones();
-    let dependences = listed.dependences();
+    let mut dependences = Dependences::new();
+    listed.depend(&mut dependences);
     listed.verdict(&dones, &dependences, marks)
 }

@@ -37,7 +37,7 @@ impl<W: Listing> Listed<'_, W> {
         ensures { result ≡ has-clash self.now.entries.now known.now.dones.now known.now.forward.now known.now.backward.now place }
     {
         let writ = self.entries[place];
-        for earlier in Places::older_than(&self.writs, card_node(&writ), place) {
+        for earlier in Places::older_than(self.writs, card_node(&writ), place) {
             let other = self.entries[earlier];
             if writ.rivals(&other) && known.is_apart(other.owner) {
                 return true;
@@ -50,7 +50,7 @@ impl<W: Listing> Listed<'_, W> {
     fn lost(&self, known: &Known, owner: usize) -> bool
         ensures { result ≡ is_lost self.now.entries.now known.now.dones.now known.now.forward.now known.now.backward.now owner }
     {
-        for place in Places::from_node(&self.own, owner) {
+        for place in Places::from_node(self.own, owner) {
             let entry = self.entries[place];
             if entry.is_writ() && entry.owner as usize == owner && self.clashes(known, place) {
                 return true;

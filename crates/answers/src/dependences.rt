@@ -1,4 +1,4 @@
-ghost use Rattle.std.specs.Prelude.{◌≡◌, length};
+ghost use Rattle.std.specs.Prelude.{◌≡◌, [], length};
 ghost use Rattle.reach.specs.Paths.{edges};
 ghost use Rattle.answers.specs.Questions.{Towards, steps};
 
@@ -15,22 +15,32 @@ pub(crate) struct Dependences {
     pub(crate) readers: Graph,
 }
 
-impl<W: Listing> Listed<'_, W> {
-    // An edge each way for each of these READs, in their order.
-    pub(crate) fn dependences(&self) -> Dependences
-        ensures writers { edges result.writers ≡ steps Towards.Writers self.now.entries.now (length self.now.entries.now) }
-        ensures readers { edges result.readers ≡ steps Towards.Readers self.now.entries.now (length self.now.entries.now) }
+impl Dependences {
+    // With no edge.
+    pub(crate) fn new() -> Dependences
+        ensures { (edges result.writers ≡ []) × (edges result.readers ≡ []) }
     {
-        let mut writers = Graph::new();
-        let mut readers = Graph::new();
+        Dependences {
+            writers: Graph::new(),
+            readers: Graph::new(),
+        }
+    }
+}
+
+impl<W: Listing> Listed<'_, W> {
+    // Adds an edge each way for each of these READs, in their order. The graphs are lent, and so filled where they lie.
+    pub(crate) fn depend(&self, dependences: &mut Dependences)
+        requires { (edges dependences.old.writers ≡ []) × (edges dependences.old.readers ≡ []) }
+        ensures writers { edges dependences.new.writers ≡ steps Towards.Writers self.now.entries.now (length self.now.entries.now) }
+        ensures readers { edges dependences.new.readers ≡ steps Towards.Readers self.now.entries.now (length self.now.entries.now) }
+    {
         for entry in self.entries {
             if entry.is_step() {
                 let reader = entry.owner as usize;
                 let writer = self.entries[entry.version as usize - 1].owner as usize;
-                let _ = writers.add(reader, writer);
-                let _ = readers.add(writer, reader);
+                let _ = dependences.writers.add(reader, writer);
+                let _ = dependences.readers.add(writer, reader);
             }
         }
-        Dependences { writers, readers }
     }
 }

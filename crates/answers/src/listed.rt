@@ -10,12 +10,12 @@ use reach::{PLACES, node_of};
 #[derive(Drop)]
 pub(crate) struct Listed<'a, W: Listing> {
     pub(crate) entries: &'a [Entry],
-    pub(crate) own: W,
-    pub(crate) writs: W,
+    pub(crate) own: &'a W,
+    pub(crate) writs: &'a W,
     ghost few: { length entries.now ≤ 2048 },
     ghost sound: { Sound entries.now },
-    ghost owners: { Linked (W.count own) (W.comes own) own_node entries.now (length entries.now) },
-    ghost cards: { Linked (W.count writs) (W.comes writs) writ_node entries.now (length entries.now) },
+    ghost owners: { Linked (W.count own.now) (W.comes own.now) own_node entries.now (length entries.now) },
+    ghost cards: { Linked (W.count writs.now) (W.comes writs.now) writ_node entries.now (length entries.now) },
 }
 
 // The node of a WRIT's card, and one for all other entries.
@@ -29,22 +29,15 @@ pub(crate) fn card_node(entry: &Entry) -> usize
     }
 }
 
-impl<'a, W: Listing> Listed<'a, W> {
-    // Lists the entries, from the oldest on.
-    pub(crate) fn new(entries: &'a [Entry]) -> Listed<'a, W>
-        requires { (Sound entries.now) × (length entries.now ≤ 2048) }
-        ensures { result.entries.now ≡ entries.now }
-    {
-        let mut own = W::empty();
-        let mut writs = W::empty();
-        for entry in entries {
-            own.list(entry.owner as usize);
-            writs.list(card_node(entry));
-        }
-        Listed {
-            entries,
-            own,
-            writs,
-        }
+// Lists entries, from the oldest on, by owner and by card. The listings are lent, and so filled where they lie: one that is handed out is copied.
+pub(crate) fn list_all<W: Listing>(entries: &[Entry], own: &mut W, writs: &mut W)
+    requires few { (Sound entries.now) × (length entries.now ≤ 2048) }
+    requires empty { (W.count own.old ≡ 0) × (W.count writs.old ≡ 0) }
+    ensures owners { Linked (W.count own.new) (W.comes own.new) own_node entries.now (length entries.now) }
+    ensures cards { Linked (W.count writs.new) (W.comes writs.new) writ_node entries.now (length entries.now) }
+{
+    for entry in entries {
+        own.list(entry.owner as usize);
+        writs.list(card_node(entry));
     }
 }

@@ -12,7 +12,7 @@ impl<W: Listing> Listed<'_, W> {
     fn outdated(&self, marks: &[u32], read: &Entry) -> bool
         ensures { result ≡ has-outdated self.now.entries.now marks.now read.now }
     {
-        for place in Places::from_node(&self.writs, node_of(read.card.0)) {
+        for place in Places::from_node(self.writs, node_of(read.card.0)) {
             if place < read.version as usize {
                 return false;
             }
@@ -28,7 +28,7 @@ impl<W: Listing> Listed<'_, W> {
     pub(crate) fn stale(&self, marks: &[u32], owner: usize) -> bool
         ensures { result ≡ is-stale self.now.entries.now marks.now owner }
     {
-        for place in Places::from_node(&self.own, owner) {
+        for place in Places::from_node(self.own, owner) {
             let entry = self.entries[place];
             if entry.is_read() && entry.owner as usize == owner && self.outdated(marks, &entry) {
                 return true;

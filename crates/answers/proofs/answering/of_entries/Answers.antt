@@ -14,13 +14,13 @@ returns g c ls told =
     let ds = c.dones-dones.result in
     let f = told_facts told in
     let s = told_sound told in
-    let dones = λ (o : ℕ) (lt : o < length es). (rw c.new-listed.ensures at c.dones-dones.ensures) o (omega (arith, c.requires.1)) in
+    let dones = λ (o : ℕ) (lt : o < length es). c.dones-dones.ensures o (omega (arith, c.requires.1)) in
     let cons = c.verdict.result.cons in
     let wcf = c.verdict.result.wcf in
     let gs = steps Towards.Writers es (length es) in
-    let hs = edges c.dependences-dependences.result.readers in
-    let depend = rw c.new-listed.ensures at c.dependences-dependences.ensures in
-    let found = rw c.new-listed.ensures at c.verdict.ensures in
+    let hs = edges c.depend.new.dependences.readers in
+    let depend = c.depend.ensures in
+    let found = c.verdict.ensures in
     let snap = subst (λ (gs : List (ℕ × ℕ)). Snapshots es gs (length es) (length es) cons) depend.writers found.cons in
     let conf = subst (λ (hs : List (ℕ × ℕ)). Conflicts es ds gs hs (length es) (length es) wcf) depend.readers
     (subst (λ (gs : List (ℕ × ℕ)). Conflicts es ds gs hs (length es) (length es) wcf) depend.writers found.wcf) in

@@ -17,7 +17,7 @@ loop-earlier-init g c =
     let bs = c.args.known.now.backward.now in
     let n = c.args.place in
     let e = at es n in
-    (tt, tt, ahead_all (g.W.Walk.count r.writs) (g.W.Walk.comes r.writs) writ_node es r.cards (λ j. rivals e (at es j) && apart ds fs bs (at es j).owner) (writ_node e) n (omega (arith, c.requires.within)) (only_rivals es ds fs bs e c.requires.writ) _ (rw c.into_iter-earlier-iterator.ensures.into_iter_gives (c.older_than-earlier-items.ensures ∙ ap (λ m. picks (g.W.Walk.comes r.writs m) n) c.card_node.ensures)))
+    (tt, tt, ahead_all (g.W.Walk.count r.writs.now) (g.W.Walk.comes r.writs.now) writ_node es r.cards (λ j. rivals e (at es j) && apart ds fs bs (at es j).owner) (writ_node e) n (omega (arith, c.requires.within)) (only_rivals es ds fs bs e c.requires.writ) _ (rw c.into_iter-earlier-iterator.ensures.into_iter_gives (c.older_than-earlier-items.ensures ∙ ap (λ m. picks (g.W.Walk.comes r.writs.now m) n) c.card_node.ensures)))
 
 pub bounds-self-earlier : goal.bounds-self-earlier
 bounds-self-earlier g c =
@@ -28,7 +28,7 @@ bounds-self-earlier g c =
     let bs = c.args.known.now.backward.now in
     let n = c.args.place in
     let e = at es n in
-    let here = ahead_here (g.W.Walk.count r.writs) (g.W.Walk.comes r.writs) writ_node es r.cards (λ j. rivals e (at es j) && apart ds fs bs (at es j).owner) (writ_node e) n (omega (arith, c.requires.within)) (only_rivals es ds fs bs e c.requires.writ) c.in-Some.earlier _ _ c.in-Some.ensures.steps c.loop-earlier.invariant.2 in
+    let here = ahead_here (g.W.Walk.count r.writs.now) (g.W.Walk.comes r.writs.now) writ_node es r.cards (λ j. rivals e (at es j) && apart ds fs bs (at es j).owner) (writ_node e) n (omega (arith, c.requires.within)) (only_rivals es ds fs bs e c.requires.writ) c.in-Some.earlier _ _ c.in-Some.ensures.steps c.loop-earlier.invariant.2 in
     omega (arith, here, c.requires.within)
 
 pub offset_bounds-self-earlier : goal.offset_bounds-self-earlier
@@ -40,7 +40,7 @@ offset_bounds-self-earlier g c =
     let bs = c.args.known.now.backward.now in
     let n = c.args.place in
     let e = at es n in
-    let here = ahead_here (g.W.Walk.count r.writs) (g.W.Walk.comes r.writs) writ_node es r.cards (λ j. rivals e (at es j) && apart ds fs bs (at es j).owner) (writ_node e) n (omega (arith, c.requires.within)) (only_rivals es ds fs bs e c.requires.writ) c.in-Some.earlier _ _ c.in-Some.ensures.steps c.loop-earlier.invariant.2 in
+    let here = ahead_here (g.W.Walk.count r.writs.now) (g.W.Walk.comes r.writs.now) writ_node es r.cards (λ j. rivals e (at es j) && apart ds fs bs (at es j).owner) (writ_node e) n (omega (arith, c.requires.within)) (only_rivals es ds fs bs e c.requires.writ) c.in-Some.earlier _ _ c.in-Some.ensures.steps c.loop-earlier.invariant.2 in
     omega (arith, here, r.few, c.requires.within)
 
 pub loop-earlier-preserved : goal.loop-earlier-preserved
@@ -52,7 +52,7 @@ loop-earlier-preserved g c =
     let bs = c.args.known.now.backward.now in
     let n = c.args.place in
     let e = at es n in
-    (tt, tt, ahead_more (g.W.Walk.count r.writs) (g.W.Walk.comes r.writs) writ_node es r.cards (λ j. rivals e (at es j) && apart ds fs bs (at es j).owner) (writ_node e) n (omega (arith, c.requires.within)) (only_rivals es ds fs bs e c.requires.writ) c.in-Some.earlier _ _ c.in-Some.ensures.steps c.loop-earlier.invariant.2 (grind (arith, nat_tests)))
+    (tt, tt, ahead_more (g.W.Walk.count r.writs.now) (g.W.Walk.comes r.writs.now) writ_node es r.cards (λ j. rivals e (at es j) && apart ds fs bs (at es j).owner) (writ_node e) n (omega (arith, c.requires.within)) (only_rivals es ds fs bs e c.requires.writ) c.in-Some.earlier _ _ c.in-Some.ensures.steps c.loop-earlier.invariant.2 (grind (arith, nat_tests)))
 
 pub returns-then-is_apart : goal.returns-then-is_apart
 returns-then-is_apart g c =
@@ -63,7 +63,7 @@ returns-then-is_apart g c =
     let bs = c.args.known.now.backward.now in
     let n = c.args.place in
     let e = at es n in
-    let here = ahead_here (g.W.Walk.count r.writs) (g.W.Walk.comes r.writs) writ_node es r.cards (λ j. rivals e (at es j) && apart ds fs bs (at es j).owner) (writ_node e) n (omega (arith, c.requires.within)) (only_rivals es ds fs bs e c.requires.writ) c.in-Some.earlier _ _ c.in-Some.ensures.steps c.loop-earlier.invariant.2 in
+    let here = ahead_here (g.W.Walk.count r.writs.now) (g.W.Walk.comes r.writs.now) writ_node es r.cards (λ j. rivals e (at es j) && apart ds fs bs (at es j).owner) (writ_node e) n (omega (arith, c.requires.within)) (only_rivals es ds fs bs e c.requires.writ) c.in-Some.earlier _ _ c.in-Some.ensures.steps c.loop-earlier.invariant.2 in
     sym (some_hit (λ j. rivals e (at es j) && apart ds fs bs (at es j).owner) n c.in-Some.earlier here (grind (arith, nat_tests)))
 
 pub returns : goal.returns
@@ -75,7 +75,7 @@ returns g c =
     let bs = c.args.known.now.backward.now in
     let n = c.args.place in
     let e = at es n in
-    sym (none_at_all (λ j. rivals e (at es j) && apart ds fs bs (at es j).owner) n (ahead_none (g.W.Walk.count r.writs) (g.W.Walk.comes r.writs) writ_node es r.cards (λ j. rivals e (at es j) && apart ds fs bs (at es j).owner) (writ_node e) n (omega (arith, c.requires.within)) (only_rivals es ds fs bs e c.requires.writ) _ c.in-None.ensures.steps.0 c.loop-earlier.invariant.2))
+    sym (none_at_all (λ j. rivals e (at es j) && apart ds fs bs (at es j).owner) n (ahead_none (g.W.Walk.count r.writs.now) (g.W.Walk.comes r.writs.now) writ_node es r.cards (λ j. rivals e (at es j) && apart ds fs bs (at es j).owner) (writ_node e) n (omega (arith, c.requires.within)) (only_rivals es ds fs bs e c.requires.writ) _ c.in-None.ensures.steps.0 c.loop-earlier.invariant.2))
 
 pub older_than-earlier-items-requires : goal.older_than-earlier-items-requires
 older_than-earlier-items-requires g c =

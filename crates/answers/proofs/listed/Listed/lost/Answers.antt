@@ -17,7 +17,7 @@ loop-place-init g c =
     let fs = c.args.known.now.forward.now in
     let bs = c.args.known.now.backward.now in
     let o = c.args.owner in
-    (tt, tt, ahead_all (g.W.Walk.count r.own) (g.W.Walk.comes r.own) own_node es r.owners (λ j. is_writ (at es j).kind && eqb (at es j).owner o && clashes es ds fs bs j) o (length es) (omega (arith)) (only_own_writs es ds fs bs o) _ (rw c.into_iter-place-iterator.ensures.into_iter_gives (c.from_node-place-items.ensures ∙ ap (picks (g.W.Walk.comes r.own o)) r.owners.each)))
+    (tt, tt, ahead_all (g.W.Walk.count r.own.now) (g.W.Walk.comes r.own.now) own_node es r.owners (λ j. is_writ (at es j).kind && eqb (at es j).owner o && clashes es ds fs bs j) o (length es) (omega (arith)) (only_own_writs es ds fs bs o) _ (rw c.into_iter-place-iterator.ensures.into_iter_gives (c.from_node-place-items.ensures ∙ ap (picks (g.W.Walk.comes r.own.now o)) r.owners.each)))
 
 pub bounds-self-place : goal.bounds-self-place
 bounds-self-place g c =
@@ -27,7 +27,7 @@ bounds-self-place g c =
     let fs = c.args.known.now.forward.now in
     let bs = c.args.known.now.backward.now in
     let o = c.args.owner in
-    let here = ahead_here (g.W.Walk.count r.own) (g.W.Walk.comes r.own) own_node es r.owners (λ j. is_writ (at es j).kind && eqb (at es j).owner o && clashes es ds fs bs j) o (length es) (omega (arith)) (only_own_writs es ds fs bs o) c.in-Some.place _ _ c.in-Some.ensures.steps c.loop-place.invariant.2 in
+    let here = ahead_here (g.W.Walk.count r.own.now) (g.W.Walk.comes r.own.now) own_node es r.owners (λ j. is_writ (at es j).kind && eqb (at es j).owner o && clashes es ds fs bs j) o (length es) (omega (arith)) (only_own_writs es ds fs bs o) c.in-Some.place _ _ c.in-Some.ensures.steps c.loop-place.invariant.2 in
     omega (arith, here)
 
 pub offset_bounds-self-place : goal.offset_bounds-self-place
@@ -38,7 +38,7 @@ offset_bounds-self-place g c =
     let fs = c.args.known.now.forward.now in
     let bs = c.args.known.now.backward.now in
     let o = c.args.owner in
-    let here = ahead_here (g.W.Walk.count r.own) (g.W.Walk.comes r.own) own_node es r.owners (λ j. is_writ (at es j).kind && eqb (at es j).owner o && clashes es ds fs bs j) o (length es) (omega (arith)) (only_own_writs es ds fs bs o) c.in-Some.place _ _ c.in-Some.ensures.steps c.loop-place.invariant.2 in
+    let here = ahead_here (g.W.Walk.count r.own.now) (g.W.Walk.comes r.own.now) own_node es r.owners (λ j. is_writ (at es j).kind && eqb (at es j).owner o && clashes es ds fs bs j) o (length es) (omega (arith)) (only_own_writs es ds fs bs o) c.in-Some.place _ _ c.in-Some.ensures.steps c.loop-place.invariant.2 in
     omega (arith, here, r.few)
 
 pub loop-place-preserved : goal.loop-place-preserved
@@ -49,7 +49,7 @@ loop-place-preserved g c =
     let fs = c.args.known.now.forward.now in
     let bs = c.args.known.now.backward.now in
     let o = c.args.owner in
-    (tt, tt, ahead_more (g.W.Walk.count r.own) (g.W.Walk.comes r.own) own_node es r.owners (λ j. is_writ (at es j).kind && eqb (at es j).owner o && clashes es ds fs bs j) o (length es) (omega (arith)) (only_own_writs es ds fs bs o) c.in-Some.place _ _ c.in-Some.ensures.steps c.loop-place.invariant.2 (grind (arith, nat_tests)))
+    (tt, tt, ahead_more (g.W.Walk.count r.own.now) (g.W.Walk.comes r.own.now) own_node es r.owners (λ j. is_writ (at es j).kind && eqb (at es j).owner o && clashes es ds fs bs j) o (length es) (omega (arith)) (only_own_writs es ds fs bs o) c.in-Some.place _ _ c.in-Some.ensures.steps c.loop-place.invariant.2 (grind (arith, nat_tests)))
 
 pub returns-then-clashes : goal.returns-then-clashes
 returns-then-clashes g c =
@@ -59,7 +59,7 @@ returns-then-clashes g c =
     let fs = c.args.known.now.forward.now in
     let bs = c.args.known.now.backward.now in
     let o = c.args.owner in
-    let here = ahead_here (g.W.Walk.count r.own) (g.W.Walk.comes r.own) own_node es r.owners (λ j. is_writ (at es j).kind && eqb (at es j).owner o && clashes es ds fs bs j) o (length es) (omega (arith)) (only_own_writs es ds fs bs o) c.in-Some.place _ _ c.in-Some.ensures.steps c.loop-place.invariant.2 in
+    let here = ahead_here (g.W.Walk.count r.own.now) (g.W.Walk.comes r.own.now) own_node es r.owners (λ j. is_writ (at es j).kind && eqb (at es j).owner o && clashes es ds fs bs j) o (length es) (omega (arith)) (only_own_writs es ds fs bs o) c.in-Some.place _ _ c.in-Some.ensures.steps c.loop-place.invariant.2 in
     sym (some_hit (λ j. is_writ (at es j).kind && eqb (at es j).owner o && clashes es ds fs bs j) (length es) c.in-Some.place here (grind (arith, nat_tests)))
 
 pub returns : goal.returns
@@ -70,4 +70,4 @@ returns g c =
     let fs = c.args.known.now.forward.now in
     let bs = c.args.known.now.backward.now in
     let o = c.args.owner in
-    sym (none_at_all (λ j. is_writ (at es j).kind && eqb (at es j).owner o && clashes es ds fs bs j) (length es) (ahead_none (g.W.Walk.count r.own) (g.W.Walk.comes r.own) own_node es r.owners (λ j. is_writ (at es j).kind && eqb (at es j).owner o && clashes es ds fs bs j) o (length es) (omega (arith)) (only_own_writs es ds fs bs o) _ c.in-None.ensures.steps.0 c.loop-place.invariant.2))
+    sym (none_at_all (λ j. is_writ (at es j).kind && eqb (at es j).owner o && clashes es ds fs bs j) (length es) (ahead_none (g.W.Walk.count r.own.now) (g.W.Walk.comes r.own.now) own_node es r.owners (λ j. is_writ (at es j).kind && eqb (at es j).owner o && clashes es ds fs bs j) o (length es) (omega (arith)) (only_own_writs es ds fs bs o) _ c.in-None.ensures.steps.0 c.loop-place.invariant.2))

@@ -15,7 +15,7 @@ loop-place-init g c =
     let es = r.entries.now in
     let ms = c.args.marks.now in
     let o = c.args.owner in
-    (tt, tt, ahead_all (g.W.Walk.count r.own) (g.W.Walk.comes r.own) own_node es r.owners (λ j. is_read (at es j).kind && eqb (at es j).owner o && outdated es ms (at es j)) o (length es) (omega (arith)) (only_own_reads es ms o) _ (rw c.into_iter-place-iterator.ensures.into_iter_gives (c.from_node-place-items.ensures ∙ ap (picks (g.W.Walk.comes r.own o)) r.owners.each)))
+    (tt, tt, ahead_all (g.W.Walk.count r.own.now) (g.W.Walk.comes r.own.now) own_node es r.owners (λ j. is_read (at es j).kind && eqb (at es j).owner o && outdated es ms (at es j)) o (length es) (omega (arith)) (only_own_reads es ms o) _ (rw c.into_iter-place-iterator.ensures.into_iter_gives (c.from_node-place-items.ensures ∙ ap (picks (g.W.Walk.comes r.own.now o)) r.owners.each)))
 
 pub bounds-self-place : goal.bounds-self-place
 bounds-self-place g c =
@@ -23,7 +23,7 @@ bounds-self-place g c =
     let es = r.entries.now in
     let ms = c.args.marks.now in
     let o = c.args.owner in
-    let here = ahead_here (g.W.Walk.count r.own) (g.W.Walk.comes r.own) own_node es r.owners (λ j. is_read (at es j).kind && eqb (at es j).owner o && outdated es ms (at es j)) o (length es) (omega (arith)) (only_own_reads es ms o) c.in-Some.place _ _ c.in-Some.ensures.steps c.loop-place.invariant.2 in
+    let here = ahead_here (g.W.Walk.count r.own.now) (g.W.Walk.comes r.own.now) own_node es r.owners (λ j. is_read (at es j).kind && eqb (at es j).owner o && outdated es ms (at es j)) o (length es) (omega (arith)) (only_own_reads es ms o) c.in-Some.place _ _ c.in-Some.ensures.steps c.loop-place.invariant.2 in
     omega (arith, here)
 
 pub offset_bounds-self-place : goal.offset_bounds-self-place
@@ -32,7 +32,7 @@ offset_bounds-self-place g c =
     let es = r.entries.now in
     let ms = c.args.marks.now in
     let o = c.args.owner in
-    let here = ahead_here (g.W.Walk.count r.own) (g.W.Walk.comes r.own) own_node es r.owners (λ j. is_read (at es j).kind && eqb (at es j).owner o && outdated es ms (at es j)) o (length es) (omega (arith)) (only_own_reads es ms o) c.in-Some.place _ _ c.in-Some.ensures.steps c.loop-place.invariant.2 in
+    let here = ahead_here (g.W.Walk.count r.own.now) (g.W.Walk.comes r.own.now) own_node es r.owners (λ j. is_read (at es j).kind && eqb (at es j).owner o && outdated es ms (at es j)) o (length es) (omega (arith)) (only_own_reads es ms o) c.in-Some.place _ _ c.in-Some.ensures.steps c.loop-place.invariant.2 in
     omega (arith, here, r.few)
 
 pub loop-place-preserved : goal.loop-place-preserved
@@ -41,7 +41,7 @@ loop-place-preserved g c =
     let es = r.entries.now in
     let ms = c.args.marks.now in
     let o = c.args.owner in
-    (tt, tt, ahead_more (g.W.Walk.count r.own) (g.W.Walk.comes r.own) own_node es r.owners (λ j. is_read (at es j).kind && eqb (at es j).owner o && outdated es ms (at es j)) o (length es) (omega (arith)) (only_own_reads es ms o) c.in-Some.place _ _ c.in-Some.ensures.steps c.loop-place.invariant.2 (grind (arith, nat_tests)))
+    (tt, tt, ahead_more (g.W.Walk.count r.own.now) (g.W.Walk.comes r.own.now) own_node es r.owners (λ j. is_read (at es j).kind && eqb (at es j).owner o && outdated es ms (at es j)) o (length es) (omega (arith)) (only_own_reads es ms o) c.in-Some.place _ _ c.in-Some.ensures.steps c.loop-place.invariant.2 (grind (arith, nat_tests)))
 
 pub returns-then-outdated : goal.returns-then-outdated
 returns-then-outdated g c =
@@ -49,7 +49,7 @@ returns-then-outdated g c =
     let es = r.entries.now in
     let ms = c.args.marks.now in
     let o = c.args.owner in
-    let here = ahead_here (g.W.Walk.count r.own) (g.W.Walk.comes r.own) own_node es r.owners (λ j. is_read (at es j).kind && eqb (at es j).owner o && outdated es ms (at es j)) o (length es) (omega (arith)) (only_own_reads es ms o) c.in-Some.place _ _ c.in-Some.ensures.steps c.loop-place.invariant.2 in
+    let here = ahead_here (g.W.Walk.count r.own.now) (g.W.Walk.comes r.own.now) own_node es r.owners (λ j. is_read (at es j).kind && eqb (at es j).owner o && outdated es ms (at es j)) o (length es) (omega (arith)) (only_own_reads es ms o) c.in-Some.place _ _ c.in-Some.ensures.steps c.loop-place.invariant.2 in
     sym (some_hit (λ j. is_read (at es j).kind && eqb (at es j).owner o && outdated es ms (at es j)) (length es) c.in-Some.place here (grind (arith, nat_tests)))
 
 pub returns : goal.returns
@@ -58,4 +58,4 @@ returns g c =
     let es = r.entries.now in
     let ms = c.args.marks.now in
     let o = c.args.owner in
-    sym (none_at_all (λ j. is_read (at es j).kind && eqb (at es j).owner o && outdated es ms (at es j)) (length es) (ahead_none (g.W.Walk.count r.own) (g.W.Walk.comes r.own) own_node es r.owners (λ j. is_read (at es j).kind && eqb (at es j).owner o && outdated es ms (at es j)) o (length es) (omega (arith)) (only_own_reads es ms o) _ c.in-None.ensures.steps.0 c.loop-place.invariant.2))
+    sym (none_at_all (λ j. is_read (at es j).kind && eqb (at es j).owner o && outdated es ms (at es j)) (length es) (ahead_none (g.W.Walk.count r.own.now) (g.W.Walk.comes r.own.now) own_node es r.owners (λ j. is_read (at es j).kind && eqb (at es j).owner o && outdated es ms (at es j)) o (length es) (omega (arith)) (only_own_reads es ms o) _ c.in-None.ensures.steps.0 c.loop-place.invariant.2))

@@ -4,7 +4,7 @@ use Rattle.digest.specs.declared.entry.Entry.{Entry}
 use Rattle.digest.specs.Entries.{at}
 use Rattle.digest.proofs.LinkLaws.{linked_none, linked_more}
 use Rattle.answers.specs.Questions.{own_node, writ_node}
-use Rattle.answers.proofs.listed.Listed.new.Goals as goal
+use Rattle.answers.proofs.listed.list_all.Goals as goal
 
 node_small : (e : Entry) → writ_node e < 2048
 node_small e = small (is_writ e.kind)
@@ -15,8 +15,8 @@ node_small e = small (is_writ e.kind)
 
 pub loop-entry-init : goal.loop-entry-init
 loop-entry-init g c = record {
-  owners = linked_none _ _ own_node c.args.entries.now c.empty-own.ensures;
-  cards = linked_none _ _ writ_node c.args.entries.now c.empty-writs.ensures;
+  owners = linked_none _ _ own_node c.args.entries.now c.requires.empty.0;
+  cards = linked_none _ _ writ_node c.args.entries.now c.requires.empty.1;
 }
 
 pub loop-entry-preserved : goal.loop-entry-preserved
@@ -33,13 +33,13 @@ loop-entry-preserved g c =
     })
 
 pub list-requires-clause-room : goal.list-requires-clause-room
-list-requires-clause-room g c = omega (arith, c.loop-entry.invariant.owners.each, c.loop-entry-test.true, c.requires.1)
+list-requires-clause-room g c = omega (arith, c.loop-entry.invariant.owners.each, c.loop-entry-test.true, c.requires.few.1)
 
 pub list-requires-clause-known : goal.list-requires-clause-known
-list-requires-clause-known g c = omega (arith, c.requires.0.owner c.loop-entry.entry-index c.loop-entry-test.true, c.loop-entry-test.true, c.requires.1)
+list-requires-clause-known g c = omega (arith, c.requires.few.0.owner c.loop-entry.entry-index c.loop-entry-test.true, c.loop-entry-test.true, c.requires.few.1)
 
 pub list-requires-in-loop-entry : goal.list-requires-in-loop-entry
 list-requires-in-loop-entry g c = record {
-  room = omega (arith, c.loop-entry.invariant.cards.each, c.loop-entry-test.true, c.requires.1);
+  room = omega (arith, c.loop-entry.invariant.cards.each, c.loop-entry-test.true, c.requires.few.1);
   known = rw c.card_node.ensures (node_small (at c.args.entries.now c.loop-entry.entry-index));
 }

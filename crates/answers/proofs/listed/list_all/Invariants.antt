@@ -1,6 +1,6 @@
 use Rattle.digest.specs.Links.{Linked}
 use Rattle.answers.specs.Questions.{own_node, writ_node}
-use Rattle.answers.proofs.listed.Listed.new.Given as goal
+use Rattle.answers.proofs.listed.list_all.Given as goal
 
 abbrev pub invariant-loop-entry : goal.invariant-loop-entry
 invariant-loop-entry g l = record {

@@ -14,7 +14,8 @@ pub fn accept(file: &[u8], marks: usize) -> Result<(), JudgeFault>
     if marks < count {
         return Err(JudgeFault::FewMarks);
     }
-    let told = Told::scan(file)?;
+    let mut told = Told::new(file);
+    told.scan()?;
     told.first_unended()
         .map_or(Ok(()), |place| Err(JudgeFault::NoEnd(place)))
 }

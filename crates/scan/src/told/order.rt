@@ -13,21 +13,28 @@ use records::{Kind, Line, RecordReader};
 use rules::JudgeFault;
 
 impl<'a> Told<'a> {
-    // Tests the records of a file, in their order, and takes them in.
-    pub(crate) fn scan(file: &'a [u8]) -> Result<Told<'a>, JudgeFault>
+    // None of a file's records yet.
+    pub(crate) fn new(file: &'a [u8]) -> Told<'a>
         requires { records_in file.now ≤ 2048 }
-        ensures { MatchResult result (λ told. (told.file.now ≡ file.now) × (told.count ≡ records_in file.now) × Scanned file.now (records_in file.now))
-            (λ fault. answered (scanned file.now (records_in file.now)) ≡ Err fault) }
+        ensures { (result.file.now ≡ file.now) × (result.count ≡ 0) }
     {
-        let mut told = Told {
+        Told {
             file,
             count: 0,
             links: Graph::new(),
-        };
-        for bytes in RecordReader::new(file) {
-            told.take(bytes)?;
         }
-        Ok(told)
+    }
+
+    // Tests the records of the file, in their order, and takes them in.
+    pub(crate) fn scan(&mut self) -> Result<(), JudgeFault>
+        requires { self.old.count ≡ 0 }
+        ensures { MatchResult result (λ _. (self.new.file.now ≡ self.old.file.now) × (self.new.count ≡ records_in self.old.file.now) × Scanned self.old.file.now (records_in self.old.file.now))
+            (λ fault. answered (scanned self.old.file.now (records_in self.old.file.now)) ≡ Err fault) }
+    {
+        for bytes in RecordReader::new(self.file) {
+            self.take(bytes)?;
+        }
+        Ok(())
     }
 
     // Tests one more record, first its fields, then whether it is in place, and takes it in.

@@ -34,15 +34,15 @@ next bs ws m s reader goes file start ps t y r u p some hands same at =
 
 pub take-requires : goal.take-requires
 take-requires c =
-    let n = next c.args.file.now c.loop-bytes.told.file.now c.loop-bytes.told.count c.into_iter-bytes-iterator.result c.new-bytes-items.result c.into_iter-bytes-iterator.ensures.into_iter_gives c.new-bytes-items.ensures.bytes c.new-bytes-items.ensures.place
+    let n = next c.args.self.now.file.now c.loop-bytes.self.file.now c.loop-bytes.self.count c.into_iter-bytes-iterator.result c.new-bytes-items.result c.into_iter-bytes-iterator.ensures.into_iter_gives c.new-bytes-items.ensures.bytes c.new-bytes-items.ensures.place
     c.loop-bytes.yielded c.loop-bytes.bytes-iterator c.loop-bytes.yielded_by c.next.result c.next.new.self c.in-Some.bytes c.in-Some.is c.next.ensures.steps c.loop-bytes.invariant.2 c.loop-bytes.invariant.3 in
     record { within = n.within; next = n.is }
 
 pub loop-bytes-preserved : goal.loop-bytes-preserved
 loop-bytes-preserved c =
-    let bs = c.args.file.now in
-    let m = c.loop-bytes.told.count in
-    let n = next bs c.loop-bytes.told.file.now m c.into_iter-bytes-iterator.result c.new-bytes-items.result c.into_iter-bytes-iterator.ensures.into_iter_gives c.new-bytes-items.ensures.bytes c.new-bytes-items.ensures.place
+    let bs = c.args.self.now.file.now in
+    let m = c.loop-bytes.self.count in
+    let n = next bs c.loop-bytes.self.file.now m c.into_iter-bytes-iterator.result c.new-bytes-items.result c.into_iter-bytes-iterator.ensures.into_iter_gives c.new-bytes-items.ensures.bytes c.new-bytes-items.ensures.place
     c.loop-bytes.yielded c.loop-bytes.bytes-iterator c.loop-bytes.yielded_by c.next.result c.next.new.self c.in-Some.bytes c.in-Some.is c.next.ensures.steps c.loop-bytes.invariant.2 c.loop-bytes.invariant.3 in
     let onward : c.take.new.self.count ≡ suc m = c.in_ok-take.ensures.onward in
     let longer = length-append c.loop-bytes.yielded (c.in-Some.bytes ∷ []) in (
@@ -55,9 +55,9 @@ loop-bytes-preserved c =
 
 pub returns-in_err-take : goal.returns-in_err-take
 returns-in_err-take c =
-    let bs = c.args.file.now in
-    let m = c.loop-bytes.told.count in
-    let n = next bs c.loop-bytes.told.file.now m c.into_iter-bytes-iterator.result c.new-bytes-items.result c.into_iter-bytes-iterator.ensures.into_iter_gives c.new-bytes-items.ensures.bytes c.new-bytes-items.ensures.place
+    let bs = c.args.self.now.file.now in
+    let m = c.loop-bytes.self.count in
+    let n = next bs c.loop-bytes.self.file.now m c.into_iter-bytes-iterator.result c.new-bytes-items.result c.into_iter-bytes-iterator.ensures.into_iter_gives c.new-bytes-items.ensures.bytes c.new-bytes-items.ensures.place
     c.loop-bytes.yielded c.loop-bytes.bytes-iterator c.loop-bytes.yielded_by c.next.result c.next.new.self c.in-Some.bytes c.in-Some.is c.next.ensures.steps c.loop-bytes.invariant.2 c.loop-bytes.invariant.3 in
     let p = err_from_is_err_and c.from_residual.result c.from_residual.ensures.1 in
     rw (p.1, p.2)
@@ -65,7 +65,7 @@ returns-in_err-take c =
 
 pub returns : goal.returns
 returns c =
-    let bs = c.args.file.now in
+    let bs = c.args.self.now.file.now in
     let all = handed_all bs c.into_iter-bytes-iterator.result c.new-bytes-items.result c.into_iter-bytes-iterator.ensures.into_iter_gives c.new-bytes-items.ensures.bytes c.new-bytes-items.ensures.place
     c.loop-bytes.yielded c.loop-bytes.bytes-iterator c.loop-bytes.yielded_by c.next.result c.next.new.self c.in-None.is c.next.ensures.steps in
     let full = c.loop-bytes.invariant.3 ∙ all in

@@ -1,11 +1,20 @@
 -- A search step by step: what one visit finds, what several find together, and what is reached at the end.
-use Rattle.std.proofs.Common.{◌≡◌, ℕ, zero, suc, ◌<◌, ◌≤◌, cond, eqb, ◌≢◌, ◌⊎◌, List, [], ◌∷◌, ◌++◌, length, get_or, set, replicate, sym, refl, ap, ◌∙◌, subst, inl, inr, arith, length-set, length-append, get_or-set_other, get_or-set_same}
-use Rattle.std.proofs.lemmas.List.{get_or-replicate, get_or_past, get_or_append_left, length-replicate}
+use Rattle.std.proofs.Common.{◌≡◌, ℕ, zero, suc, ◌<◌, ◌≤◌, false, cond, eqb, ◌≢◌, ◌⊎◌, List, [], ◌∷◌, ◌++◌, length, get_or, set, replicate, sym, refl, ap, ◌∙◌, subst, inl, inr, arith, length-set, length-append, get_or-set_other, get_or-set_same}
+use Rattle.std.proofs.lemmas.List.{get_or-replicate, get_or-take, get_or_past, get_or_append_left, length-replicate, length-take-le}
 use Rattle.std.proofs.Math.Seq.{get_or-append_seam}
 use Rattle.std.proofs.lemmas.Bool.{cases_lt, cases_eq, cases_Bool}
+use Rattle.std.proofs.lemmas.Bool.Decides.{nat_tests}
 use Rattle.reach.specs.Links.{places, from, to}
 use Rattle.reach.specs.Paths.{Edge, Path, Marked, Reached}
-use Rattle.reach.specs.Searches.{unmarked, Room, Closed, Waits, Is, Found, Search}
+use Rattle.reach.specs.Searches.{waiting, unmarked, Room, Closed, Waits, Is, Found, Search}
+use Rattle.reach.specs.declared.queue.Queue.{Queue}
+
+-- the nodes of a queue are the first of its places
+pub waiting_long : (q : Queue) → length (waiting q) ≡ q.count
+waiting_long q = length-take-le q.count q.nodes (omega (arith, q.room, q.long))
+
+pub waiting_at : (q : Queue) (i : ℕ) → i < length (waiting q) → get_or q.nodes i 0 ≡ get_or (waiting q) i 0
+waiting_at q i lt = sym (get_or-take q.count q.nodes i 0 (omega (arith, waiting_long q)))
 
 -- marking node n changes no count of the nodes below it
 unmarked_above : (ms : List ℕ) (n k : ℕ) → k ≤ n → unmarked (set ms n 1) k ≡ unmarked ms k
@@ -38,6 +47,31 @@ unmarked_less ms n (suc k) lt in' e = elim (cases_lt n k) [ inl small ↦ below 
         let rest = unmarked_above ms n n (omega arith) in
         rw s (omega arith)
 
+-- what is marked still is, where a marked node is marked again
+again : (ms : List ℕ) (n b : ℕ) → 0 < get_or ms n 0 → Marked ms b → Marked (set ms n 1) b
+again ms n b was m = elim (cases_eq b n) [
+  | inl e ↦ elim (cases_lt n (length ms)) [
+      | inl lt ↦ rw e (omega (arith, get_or-set_same ms n 1 0 lt))
+      | inr past ↦ let none = get_or_past ms n 0 past in absurd (omega (arith))
+    ]
+  | inr ne ↦ omega (arith, get_or-set_other ms n b 1 0 ne)
+]
+
+-- marking a marked node again changes no count
+unmarked_same : (ms : List ℕ) (n k : ℕ) → 0 < get_or ms n 0 → unmarked (set ms n 1) k ≡ unmarked ms k
+unfolding unmarked
+unmarked_same ms n zero m = refl
+unmarked_same ms n (suc k) m =
+    let same : blank (get_or (set ms n 1) k 0) ≡ blank (get_or ms k 0) = elim (cases_eq k n) [
+      | inl e ↦ rw e (marked_blank (get_or (set ms n 1) n 0) (again ms n n m m) ∙ sym (marked_blank (get_or ms n 0) m))
+      | inr ne ↦ ap blank (get_or-set_other ms n k 1 0 ne)
+    ] in
+    let rest = unmarked_same ms n k m in
+    omega arith
+  where
+    marked_blank : (x : ℕ) → 0 < x → blank x ≡ 0
+    marked_blank x lt = let some : eqb x 0 ≡ false = grind (arith, nat_tests) in ap (λ b. cond b 1 0) some
+
 -- the queue with node n behind the others
 abbrev put : List ℕ → ℕ → List ℕ
 put q n = q ++ n ∷ []
@@ -62,6 +96,17 @@ visited ms q n room small in' blank = record {
 
     last : get_or (put q n) (length q) 0 ≡ n
     last = get_or-append_seam q n [] 0
+
+pub revisited : (ms q : List ℕ) (n : ℕ) → Room ms q → 0 < get_or ms n 0 → Found (Is n) ms (set ms n 1) q q
+revisited ms q n room was = record {
+  room = omega (arith, unmarked_same ms n places was, room);
+  long = length-set ms n 1;
+  marks = λ b m. again ms n b was m;
+  longer = omega arith;
+  nodes = λ i lt. refl;
+  only = λ b m. elim (cases_eq b n) [ inl e ↦ inl (rw e was) | inr ne ↦ inl (omega (arith, get_or-set_other ms n b 1 0 ne)) ];
+  fresh = λ i ge lt. absurd (omega arith);
+}
 
 pub found_none : {P : ℕ → Type 0} (ms q : List ℕ) → Room ms q → Found P ms ms q q
 found_none ms q room = record {

@@ -1,4 +1,5 @@
 -- What holds in the midst of a search. Assumes nothing.
+--     waiting q                   the nodes of a queue, in the order of marking
 --     unmarked ms n               how many of the nodes below n are not marked
 --     Room ms q                   every node that is not marked could still be put into the queue
 --     Closed es ms a              every edge from a leads to a marked node, or past the marks
@@ -8,9 +9,13 @@
 --     Found P ms ms' q q'         from marks ms to ms' only nodes with P were marked, each put into the queue behind those that were there
 --     Is n                        being node n
 --     Search es a ms q            marked are the nodes of the queue, a path leads to each, and there is room for the others
-use Rattle.std.specs.Prelude.{◌≡◌, ℕ, zero, suc, ◌+◌, ◌<◌, ◌≤◌, cond, ◌⊎◌, List, length, ◌==◌, slice_index}
+use Rattle.std.specs.Prelude.{◌≡◌, ℕ, zero, suc, ◌+◌, ◌<◌, ◌≤◌, cond, ◌⊎◌, List, length, take, ◌==◌, slice_index}
 use Rattle.reach.specs.Links.{places}
 use Rattle.reach.specs.Paths.{Edge, Path, Marked}
+use Rattle.reach.specs.declared.queue.Queue.{Queue}
+
+abbrev pub waiting : Queue → List ℕ
+waiting q = take q.count q.nodes
 
 unfoldable pub unmarked : List ℕ → ℕ → ℕ
 unmarked ms zero = 0

@@ -1,7 +1,7 @@
 ghost use Rattle.std.specs.Prelude.{◌≡◌, ◌<◌, [], ◌∷◌, ◌++◌, length, if◌then◌else◌};
 ghost use Rattle.reach.specs.Links.{places, leaves, picks, behind};
 ghost use Rattle.reach.specs.Paths.{edges, taken, Edge, Reached};
-ghost use Rattle.reach.specs.Searches.{Room, Found, Closed, Clear, Listed};
+ghost use Rattle.reach.specs.Searches.{waiting, Room, Found, Closed, Clear, Listed};
 
 use super::super::queue::Queue;
 use super::super::walk::{Places, Walk};
@@ -59,9 +59,9 @@ impl Graph {
     // again without a walk over all marks.
     pub fn search(&self, from: usize, marks: &mut [u32], queue: &mut Queue)
         requires clear { Clear marks.old }
-        requires empty { queue.old.nodes.items ≡ [] }
+        requires empty { waiting queue.old ≡ [] }
         ensures reached { Reached (edges self.now) from marks.new }
-        ensures listed { Listed marks.new queue.new.nodes.items }
+        ensures listed { Listed marks.new (waiting queue.new) }
     {
         if from >= PLACES {
             return;
@@ -69,7 +69,7 @@ impl Graph {
         self.expand(from, marks, queue);
         // The queue grows while it is gone through, so its places are counted.
         let mut next = 0;
-        while next < queue.nodes.len() {
+        while next < queue.count {
             let node = queue.nodes[next] as usize;
             self.expand(node, marks, queue);
             next += 1;
@@ -78,8 +78,8 @@ impl Graph {
 
     // Marks the nodes to which an edge leads from `node`.
     fn expand(&self, node: usize, marks: &mut [u32], queue: &mut Queue)
-        requires { (node < places) × (Room marks.old queue.old.nodes.items) }
-        ensures found { Found (Edge (edges self.now) node) marks.old marks.new queue.old.nodes.items queue.new.nodes.items }
+        requires { (node < places) × (Room marks.old (waiting queue.old)) }
+        ensures found { Found (Edge (edges self.now) node) marks.old marks.new (waiting queue.old) (waiting queue.new) }
         ensures closed { Closed (edges self.now) marks.new node }
     {
         for place in self.edges_from(node) {

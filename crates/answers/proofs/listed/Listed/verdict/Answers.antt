@@ -1,7 +1,7 @@
 use Rattle.std.proofs.Common.{ℕ, ◌+◌, ◌<◌, ◌≤◌, Bool, List, length, sym, refl, ap, ◌∙◌, subst, arith}
 use Rattle.verdicts.specs.declared.verdict.Verdict.{Verdict}
 use Rattle.reach.specs.Paths.{edges, Marked}
-use Rattle.reach.specs.Searches.{Clear}
+use Rattle.reach.specs.Searches.{waiting, Clear}
 use Rattle.reach.specs.declared.queue.Queue.{Queue}
 use Rattle.reach.proofs.SearchLaws.{none_marked}
 use Rattle.answers.specs.Questions.{Snapshot, Snapshots, Conflict, Conflicts}
@@ -46,7 +46,7 @@ loop-owner-preserved g c =
             back = ap length w.back-is ∙ w.conflicting.auto.backward ∙ inv.back;
             marks = c.if-entry-owner.auto.marks ∙ inv.marks;
             clear = subst (λ (xs : List ℕ). Clear xs) (sym w.marks-is) w.clear.ensures.clear;
-            empty = ap (λ (q : Queue). q.nodes.items) w.queue-is ∙ w.clear.ensures.empty;
+            empty = ap waiting w.queue-is ∙ w.clear.ensures.empty;
           }
       | else-entry-owner w ↦ record {
         aca = ap (λ (v : Verdict). v.aca) w.verdict-is ∙ inv.aca;
@@ -55,6 +55,6 @@ loop-owner-preserved g c =
         back = ap length w.back-is ∙ inv.back;
         marks = c.if-entry-owner.auto.marks ∙ inv.marks;
         clear = subst (λ (xs : List ℕ). Clear xs) (sym w.marks-is) inv.clear;
-        empty = ap (λ (q : Queue). q.nodes.items) w.queue-is ∙ inv.empty;
+        empty = ap waiting w.queue-is ∙ inv.empty;
       }
     ]

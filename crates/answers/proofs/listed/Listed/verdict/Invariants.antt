@@ -1,6 +1,6 @@
 use Rattle.std.proofs.Common.{[], ◌≡◌, length}
 use Rattle.reach.specs.Paths.{edges}
-use Rattle.reach.specs.Searches.{Clear}
+use Rattle.reach.specs.Searches.{waiting, Clear}
 use Rattle.answers.specs.Questions.{Snapshots, Conflicts}
 use Rattle.answers.proofs.listed.Listed.verdict.Given as goal
 
@@ -12,5 +12,5 @@ invariant-loop-owner g l = record {
   back : length l.back ≡ 2048;
   marks : length l.marks ≡ length l.initial.marks;
   clear : Clear l.marks;
-  empty : l.queue.nodes.items ≡ [];
+  empty : (waiting l.queue) ≡ [];
 }

@@ -4,6 +4,7 @@ use Rattle.std.proofs.lemmas.List.{length-map, get_or-map}
 use Rattle.reach.specs.Links.{from, to, leaves, table}
 use Rattle.reach.specs.Paths.{edges, Edge, Marked}
 use Rattle.reach.specs.declared.graph.LinkedEdge.{LinkedEdge}
+use Rattle.reach.specs.Searches.{waiting}
 use Rattle.reach.proofs.LinkLaws.{from_leaves, leaves_from}
 use Rattle.reach.proofs.PickLaws.{Passed, passed_none, passed_here, passed_more, passed_all, passed_less}
 use Rattle.reach.proofs.SearchLaws.{found_none, found_more}
@@ -30,7 +31,7 @@ loop-place-init c =
     let es = edges c.args.self.now in (
       tt,
       tt,
-      found_none c.args.marks.now c.args.queue.now.nodes.items c.requires.1,
+      found_none c.args.marks.now (waiting c.args.queue.now) c.requires.1,
       passed_none (leaves es c.args.node) (Missed es c.args.node c.args.marks.now) (length es) _ (rw c.into_iter-place-iterator.ensures.into_iter_gives c.edges_from-place-items.ensures),
     )
 

@@ -1,8 +1,8 @@
-use Rattle.std.proofs.Common.{◌≡◌, ℕ, ◌≤◌, length, get_or, sym, refl, ap, subst, inl, inr, arith}
+use Rattle.std.proofs.Common.{◌≡◌, ℕ, ◌<◌, ◌≤◌, length, get_or, sym, refl, ap, subst, inl, inr, arith}
 use Rattle.std.proofs.lemmas.Bool.{cases_lt}
 use Rattle.reach.specs.Paths.{edges}
-use Rattle.reach.specs.Searches.{Closed}
-use Rattle.reach.proofs.SearchLaws.{search_none, search_more, closed_more, all_reached, path_inside, path_from_inside}
+use Rattle.reach.specs.Searches.{waiting, Closed}
+use Rattle.reach.proofs.SearchLaws.{waiting_long, waiting_at, search_none, search_more, closed_more, all_reached, path_inside, path_from_inside}
 use Rattle.reach.proofs.graph.Graph.search.Goals as goal
 
 pub returns-then-from-ge-PLACES : goal.returns-then-from-ge-PLACES
@@ -20,12 +20,12 @@ returns-then-from-ge-PLACES c =
 pub expand-requires : goal.expand-requires
 expand-requires c = (
   c.if-from-ge-PLACES.false,
-  (search_none (edges c.args.self.now) c.args.from c.args.marks.now c.args.queue.now.nodes.items c.requires.clear (ap length c.requires.empty)).room,
+  (search_none (edges c.args.self.now) c.args.from c.args.marks.now (waiting c.args.queue.now) c.requires.clear (ap length c.requires.empty)).room,
 )
 
 pub loop-next-init : goal.loop-next-init
 loop-next-init c =
-    let start = search_none (edges c.args.self.now) c.args.from c.args.marks.now c.args.queue.now.nodes.items c.requires.clear (ap length c.requires.empty) in (
+    let start = search_none (edges c.args.self.now) c.args.from c.args.marks.now (waiting c.args.queue.now) c.requires.clear (ap length c.requires.empty) in (
       search_more (edges c.args.self.now) c.args.from c.args.from start (inl refl) c.expand.ensures.found,
       c.expand.ensures.closed,
       λ i lt. absurd (omega arith),
@@ -36,9 +36,11 @@ pub expand-requires-in-loop-next : goal.expand-requires-in-loop-next
 expand-requires-in-loop-next c =
     let g = c.args.self.now in
     let s = c.loop-next.invariant.0 in
-    let node = get_or c.loop-next.queue.nodes.items c.loop-next.next 0 in (
-      rw c.deref.ensures.0 (path_inside (edges g) (length c.loop-next.marks) (λ k lt. (g.within k lt).1)
-          (s.sound node (s.marked c.loop-next.next (omega arith)))),
+    let q = c.loop-next.queue in
+    let at : c.loop-next.next < length (waiting q) = omega (arith, waiting_long q, c.loop-next-test.true) in
+    let node = get_or (waiting q) c.loop-next.next 0 in (
+      rw (waiting_at q c.loop-next.next at) (path_inside (edges g) (length c.loop-next.marks) (λ k lt. (g.within k lt).1)
+          (s.sound node (s.marked c.loop-next.next at))),
       s.room,
     )
 
@@ -46,12 +48,14 @@ pub loop-next-preserved : goal.loop-next-preserved
 loop-next-preserved c =
     let es = edges c.args.self.now in
     let inv = c.loop-next.invariant in
-    let q = c.loop-next.queue.nodes.items in
+    let q = waiting c.loop-next.queue in
+    let at : c.loop-next.next < length q = omega (arith, waiting_long c.loop-next.queue, c.loop-next-test.true) in
+    let here = waiting_at c.loop-next.queue c.loop-next.next at in
     let node = get_or q c.loop-next.next 0 in
-    let path = inv.0.sound node (inv.0.marked c.loop-next.next (omega arith)) in
-    let found = rw c.deref.ensures.0 at c.expand-in-loop-next.ensures.found in
-    let closed = rw c.deref.ensures.0 at c.expand-in-loop-next.ensures.closed in
-    let same : (i : ℕ) → i ≤ c.loop-next.next → get_or c.expand-in-loop-next.new.queue.nodes.items i 0 ≡ get_or q i 0 =
+    let path = inv.0.sound node (inv.0.marked c.loop-next.next at) in
+    let found = rw here at c.expand-in-loop-next.ensures.found in
+    let closed = rw here at c.expand-in-loop-next.ensures.closed in
+    let same : (i : ℕ) → i ≤ c.loop-next.next → get_or (waiting c.expand-in-loop-next.new.queue) i 0 ≡ get_or q i 0 =
     λ i le. found.nodes i (omega arith) in (
       search_more es c.args.from node inv.0 (inr path) found,
       closed_more es c.args.from node inv.0 (inr path) found c.args.from inv.1,
@@ -68,6 +72,6 @@ pub returns : goal.returns
 returns c =
     let inv = c.loop-next.invariant in
     record {
-      reached = all_reached (edges c.args.self.now) c.args.from c.loop-next.marks c.loop-next.queue.nodes.items inv.0 (λ i lt. inv.2 i (omega arith)) inv.1;
+      reached = all_reached (edges c.args.self.now) c.args.from c.loop-next.marks (waiting c.loop-next.queue) inv.0 (λ i lt. inv.2 i (omega (arith, waiting_long c.loop-next.queue, c.loop-next-test.false))) inv.1;
       listed = inv.0.waits;
     }

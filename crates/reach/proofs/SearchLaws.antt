@@ -51,9 +51,9 @@ unmarked_less ms n (suc k) lt in' e = elim (cases_lt n k) [ inl small ↦ below 
 again : (ms : List ℕ) (n b : ℕ) → 0 < get_or ms n 0 → Marked ms b → Marked (set ms n 1) b
 again ms n b was m = elim (cases_eq b n) [
   | inl e ↦ elim (cases_lt n (length ms)) [
-      | inl lt ↦ rw e (omega (arith, get_or-set_same ms n 1 0 lt))
-      | inr past ↦ let none = get_or_past ms n 0 past in absurd (omega (arith))
-    ]
+    | inl lt ↦ rw e (omega (arith, get_or-set_same ms n 1 0 lt))
+    | inr past ↦ let none = get_or_past ms n 0 past in absurd (omega (arith))
+  ]
   | inr ne ↦ omega (arith, get_or-set_other ms n b 1 0 ne)
 ]
 

@@ -18,7 +18,8 @@ pub(crate) fn field<const N: usize>(bytes: &[u8], at: usize) -> [u8; N]
 
 impl Line {
     // The line that a record's bytes write: `Length` at another length than a record's, else the first bad field.
-    // What is read is written back as the same bytes.
+    // What is read is written back as the same bytes. It is put in place where it is called: as a call it takes twice as long, its answer being
+    // copied from hand to hand.
     #[inline(always)]
     pub fn decode(bytes: &[u8]) -> Result<Line, RecordFault>
         ensures value { result ≡ decoded bytes.now }

@@ -2,7 +2,6 @@ use Rattle.std.proofs.Common.{ℕ, ◌+◌, ◌<◌, ◌≤◌, Bool, List, leng
 use Rattle.verdicts.specs.declared.verdict.Verdict.{Verdict}
 use Rattle.reach.specs.Paths.{edges, Marked}
 use Rattle.reach.specs.Searches.{waiting, Clear}
-use Rattle.reach.specs.declared.queue.Queue.{Queue}
 use Rattle.reach.proofs.SearchLaws.{none_marked}
 use Rattle.answers.specs.Questions.{Snapshot, Snapshots, Conflict, Conflicts}
 use Rattle.answers.proofs.EachLaws.{each_more, each_skip}

@@ -2,6 +2,7 @@
 use crate::parse::{BooksSize, Instruction, parse};
 use crate::show::Shown;
 use catalogue::BooksMemory;
+use records::RECORD_SIZE;
 use sessions::{Answer, Command, FileFault, history_file, run};
 use shelves::Shelf;
 use std::alloc::{AllocError, Global};
@@ -82,11 +83,17 @@ fn print_all(rt: &HostRuntime, lines: &[String], answers: &[Answer], cards: u32)
     Ok(())
 }
 
+// The most lines that a history file takes, which has 65,536 bytes at most: the judge refuses a longer one.
+const MOST_LINES: usize = 65_536 / RECORD_SIZE;
+
 // Writes the journal as a history file, and says whether it was written.
 fn save(rt: &HostRuntime, file: &str, answer: Option<&Answer>) -> Result<bool, AllocError> {
     let Some(Answer::Journal(lines)) = answer else {
         return Ok(false);
     };
+    if lines.len() > MOST_LINES {
+        return Ok(false);
+    }
     match history_file(rt.alloc(), lines) {
         Ok(bytes) => Ok(fs::write(rt, file, &bytes).is_ok()),
         Err(FileFault::Line(_)) => Ok(false),

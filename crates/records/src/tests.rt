@@ -12,7 +12,20 @@ fn line(kind: Kind, transaction: u32, card: u32, writer: u32, first: u64, second
     }
 }
 
-// Every kind, both ends of every range, and every bad field: what is written is read back, what is refused writes nothing.
+// The bytes of a line's fields, good or bad.
+fn bytes_of(line: &Line) -> [u8; 32] {
+    let mut bytes = [0u8; 32];
+    bytes[0..4].copy_from_slice(&line.kind.letters());
+    bytes[4..8].copy_from_slice(&line.transaction.0.to_be_bytes());
+    bytes[8..12].copy_from_slice(&line.card.0.to_be_bytes());
+    bytes[12..16].copy_from_slice(&line.writer.0.to_be_bytes());
+    bytes[16..24].copy_from_slice(&line.value.first.to_be_bytes());
+    bytes[24..32].copy_from_slice(&line.value.second.to_be_bytes());
+    bytes
+}
+
+// Every kind, both ends of every range, and every bad field: what is written is read back, what is refused writes nothing, and its bytes are
+// refused for the same field.
 #[test]
 fn lines_are_written_and_read_back(rt: HostRuntime) {
     let cases = [
@@ -31,6 +44,7 @@ fn lines_are_written_and_read_back(rt: HostRuntime) {
         (Kind::Done, 1, 0, 0, 0, 0, None),
         (Kind::Gone, 1_000_000, 0, 0, 0, 0, None),
         (Kind::Read, 0, 256, 0, 0, 0, Some(RecordFault::Transaction)),
+        (Kind::Writ, 0, 0, 0, 0, 0, Some(RecordFault::Transaction)),
         (
             Kind::Done,
             1_000_001,
@@ -54,6 +68,8 @@ fn lines_are_written_and_read_back(rt: HostRuntime) {
         (Kind::Writ, 2, 255, 1, 1, 0, Some(RecordFault::Writer)),
         (Kind::Done, 1, 0, 1, 1, 0, Some(RecordFault::Writer)),
         (Kind::Read, 1, 0, 0, 1, 0, Some(RecordFault::Words)),
+        (Kind::Read, 1, 0, 0, 0, 1, Some(RecordFault::Words)),
+        (Kind::Done, 1, 0, 0, 1, 0, Some(RecordFault::Words)),
         (Kind::Gone, 1, 0, 0, 0, 1, Some(RecordFault::Words)),
     ];
     for (kind, transaction, card, writer, first, second, fault) in cases {
@@ -63,11 +79,13 @@ fn lines_are_written_and_read_back(rt: HostRuntime) {
         match fault {
             None => {
                 assert_eq!(rt; answer, Ok(()));
+                assert_eq!(rt; out, bytes_of(&line));
                 assert_eq!(rt; Line::decode(&out), Ok(line));
             }
             Some(fault) => {
                 assert_eq!(rt; answer, Err(fault));
                 assert_eq!(rt; out, [7u8; 32]);
+                assert_eq!(rt; Line::decode(&bytes_of(&line)), Err(fault));
             }
         }
     }
@@ -75,7 +93,7 @@ fn lines_are_written_and_read_back(rt: HostRuntime) {
 
 // One record byte by byte, and what one changed byte makes of it.
 #[test]
-fn records_are_read_byte_by_byte(rt: HostRuntime) {
+fn records_are_read_byte_by_byte(rt: HostRuntime) -> Result<(), Fail> {
     let record = [
         b'W', b'R', b'I', b'T', 0, 10, 11, 12, 0, 0, 0, 200, 0, 10, 11, 12, 1, 2, 3, 4, 5, 6, 7, 8,
         17, 18, 19, 20, 21, 22, 23, 24,
@@ -106,8 +124,14 @@ fn records_are_read_byte_by_byte(rt: HostRuntime) {
     }
     assert_eq!(rt; Line::decode(&record[0..31]), Err(RecordFault::Length));
     assert_eq!(rt; Line::decode(&[b'D'; 33]), Err(RecordFault::Length));
-    assert_eq!(rt; read.encode(&mut [0; 31]), Err(RecordFault::Length));
+    for size in [0, 31, 33] {
+        let mut out = [7u8; 33];
+        let part = out.get_mut(0..size).ok_or("the part is there")?;
+        assert_eq!(rt; read.encode(part), Err(RecordFault::Length));
+        assert_eq!(rt; out, [7u8; 33]);
+    }
     assert_eq!(rt; RecordFault::Length.number(), 21);
+    Ok(())
 }
 
 // Seventy bytes are two records and a rest that is none.

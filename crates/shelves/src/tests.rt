@@ -24,18 +24,17 @@ fn pool(heap: Global) -> Result<PoolShelf, AllocError> {
     made(heap, 3)
 }
 
-// Puts the steps of the table, and asks for each version that was put.
-fn steps<S: Shelf>(rt: &impl Abort, shelf: &mut S) {
+// Puts the steps of the table for two cards of one part of the shelf, and asks for each version that was put.
+fn steps<S: Shelf>(rt: &impl Abort, shelf: &mut S, [one, other]: [CardNo; 2]) {
     let table = [
-        (0, 10, [1, 0, 0], None),
-        (1, 20, [1, 1, 65536], Some(PutRefusal::BadStamp)),
-        (1, 30, [1, 1, 65535], None),
-        (0, 40, [2, 1, 0], None),
-        (0, 50, [3, 1, 0], Some(PutRefusal::NoPlace)),
-        (9, 60, [0, 0, 0], Some(PutRefusal::NoCard)),
+        (one, 10, [1, 0, 0], None),
+        (other, 20, [1, 1, 65536], Some(PutRefusal::BadStamp)),
+        (other, 30, [1, 1, 65535], None),
+        (one, 40, [2, 1, 0], None),
+        (one, 50, [3, 1, 0], Some(PutRefusal::NoPlace)),
+        (CardNo(9), 60, [0, 0, 0], Some(PutRefusal::NoCard)),
     ];
     for (card, first, counts, refusal) in table {
-        let card = CardNo(card);
         let value = Value { first, second: 7 };
         let newest = shelf.newest(card);
         assert_eq!(rt; shelf.put(card, value, TxNo(5), &counts).err(), refusal);
@@ -53,24 +52,45 @@ fn steps<S: Shelf>(rt: &impl Abort, shelf: &mut S) {
     }
 }
 
+// The cards of the left shelf of a split, those of the next one, and those of the one behind both.
+const LEFT: [CardNo; 2] = [CardNo(0), CardNo(1)];
+const SECOND: [CardNo; 2] = [CardNo(2), CardNo(3)];
+const THIRD: [CardNo; 2] = [CardNo(4), CardNo(5)];
+
 #[test]
 fn every_make(rt: HostRuntime) -> Result<(), Fail> {
     let heap = rt.alloc();
-    steps(&rt, &mut row(heap)?);
-    steps(&rt, &mut pool(heap)?);
-    steps(&rt, &mut SplitShelf::new(row(heap)?, pool(heap)?));
+    steps(&rt, &mut row(heap)?, LEFT);
+    steps(&rt, &mut pool(heap)?, LEFT);
     Ok(())
 }
 
-// A split of a split: its fifth card is the second of the inner split's right side.
+// What is put on one side leaves the other as it was.
+#[test]
+fn split_of_a_row_and_a_pool(rt: HostRuntime) -> Result<(), Fail> {
+    let heap = rt.alloc();
+    let mut shelf = SplitShelf::new(row(heap)?, pool(heap)?);
+    steps(&rt, &mut shelf, LEFT);
+    assert_eq!(rt; shelf.versions(CardNo(2)), Some(1));
+    assert_eq!(rt; shelf.free(CardNo(2)), Some(3));
+    steps(&rt, &mut shelf, SECOND);
+    assert_eq!(rt; shelf.versions(CardNo(0)), Some(3));
+    assert_eq!(rt; shelf.free(CardNo(2)), Some(0));
+    Ok(())
+}
+
+// A split of a split: its fifth card is the first of the inner split's right side.
 #[test]
 fn split_of_a_split(rt: HostRuntime) -> Result<(), Fail> {
     let heap = rt.alloc();
     let inner = SplitShelf::new(row(heap)?, pool(heap)?);
     let mut shelf = SplitShelf::new(row(heap)?, inner);
-    steps(&rt, &mut shelf);
+    steps(&rt, &mut shelf, LEFT);
+    steps(&rt, &mut shelf, SECOND);
     assert_eq!(rt; shelf.free(CardNo(5)), Some(3));
     assert_eq!(rt; shelf.shares(CardNo(4), CardNo(5)), Some(true));
     assert_eq!(rt; shelf.shares(CardNo(1), CardNo(5)), Some(false));
+    steps(&rt, &mut shelf, THIRD);
+    assert_eq!(rt; shelf.free(CardNo(5)), Some(0));
     Ok(())
 }

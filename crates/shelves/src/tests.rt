@@ -54,7 +54,9 @@ fn steps<S: Shelf>(rt: &impl Abort, shelf: &mut S, [one, other]: [CardNo; 2]) {
 
 // The cards of the left shelf of a split, those of the next one, and those of the one behind both.
 const LEFT: [CardNo; 2] = [CardNo(0), CardNo(1)];
+
 const SECOND: [CardNo; 2] = [CardNo(2), CardNo(3)];
+
 const THIRD: [CardNo; 2] = [CardNo(4), CardNo(5)];
 
 #[test]

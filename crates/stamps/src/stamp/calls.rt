@@ -10,6 +10,9 @@ use crate::stamp::Stamp;
 // How many counts a stamp has room for.
 const ROOM: usize = 256;
 
+// The largest count.
+const MOST: u32 = 65_535;
+
 impl Stamp {
     // The stamp of version 0.
     pub fn zero() -> Stamp
@@ -26,8 +29,14 @@ impl Stamp {
             return None;
         }
         let mut counts = [0; ROOM];
+        // All counts are gone through, also behind one that is too large: a loop that may leave early takes twice as long.
+        let mut all_fit = true;
         for (i, n) in list.iter().enumerate() {
-            counts[i] = u16::try_from(*n).ok()?;
+            all_fit &= *n <= MOST;
+            counts[i] = (*n).min(MOST) as u16;
+        }
+        if !all_fit {
+            return None;
         }
         Some(Stamp { counts })
     }

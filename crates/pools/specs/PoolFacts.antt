@@ -1,9 +1,10 @@
 -- What the fields of a pool's drawer say of its meaning. Assumes nothing.
-use Rattle.std.specs.Prelude.{◌≡◌, ℕ, suc, pred, ◌-◌, ◌<◌, ◌≤◌, length, Some, vec_items, vec_len, nat_lt, slice_index_or, slice_set, refl, true, ◌&&◌, nat_le}
+use Rattle.std.specs.Prelude.{◌≡◌, ℕ, suc, pred, ◌-◌, ◌<◌, ◌≤◌, length, Some, None, vec_items, vec_len, nat_lt, slice_index_or, slice_set, refl, true, ◌&&◌, nat_le}
 use Rattle.std.proofs.Common.{sym, subst, ◌∙◌, arith}
 use Rattle.std.proofs.Math.Path.{ap}
 use Rattle.std.specs.List.{slice_get}
 use Rattle.std.proofs.lemmas.List.{get_or_read_under}
+use Rattle.std.proofs.lemmas.Option.{slice_get_past}
 use Rattle.std.proofs.lemmas.Bool.{cond-true, lt-ltb, and_parts}
 use Rattle.pools.specs.declared.chain.Chain.{Chain}
 use Rattle.pools.specs.declared.chain.Link.{Link}
@@ -12,7 +13,7 @@ use Rattle.pools.specs.declared.pool.PoolMemory.{PoolMemory}
 use Rattle.pools.specs.declared.pool.PoolDrawer.{PoolDrawer}
 use Rattle.pools.specs.Chains.{tally, no_link, no_chain, chain_at, link_at, owner, Led, Leads}
 use Rattle.shelf.specs.declared.size.Size.{Size}
-use Rattle.shelf.specs.Meaning.{Version, version_at, newest}
+use Rattle.shelf.specs.Meaning.{Version, first_version, version_at, newest}
 use Rattle.shelf.specs.Sound.{Sound}
 use Rattle.drawers.specs.Fresh.{size_fits}
 use Rattle.drawers.specs.Places.{version_in, version_of, Wrote}
@@ -20,7 +21,7 @@ use Rattle.shelf.specs.Putting.{added}
 use Rattle.pools.specs.Pools.{pool_of}
 use Rattle.pools.specs.PoolMeaning.{pool_meaning, pool_fits}
 use Rattle.pools.specs.Links.{Knows, from_known, Newest, from_newest, leads_further, owner_kept, chain_new}
-use Rattle.pools.specs.PoolsLemmas.{tally_le, pool_length, pool_nth, pool_sound, pool_added}
+use Rattle.pools.specs.PoolsLemmas.{tally_le, pool_length, pool_first, pool_nth, pool_none, pool_sound, pool_added}
 use Rattle.drawers.proofs.Spots.{version_read, narrow_in, wrote_other, wrote_here}
 
 abbrev owned : PoolDrawer → ℕ → ℕ
@@ -90,9 +91,20 @@ module _ (s : PoolDrawer) (c : ℕ) (listed : c < s.size.cards) where
   unfolding pool_meaning
   pool_free = cond-true (nat_lt c s.size.cards) (s.size.places - s.used) 0 (lt-ltb c s.size.cards listed)
 
+  pub pool_versions : length ((pool_meaning s).line c) ≡ suc newest_link.number
+  unfolding pool_meaning
+  pool_versions = pool_length s.size.cards s.size.width s.size.places s.used (owned s) (kept_at s) c listed ∙ ap suc (sym newest_there.told)
+
+  pub pool_version_0 : version_at (pool_meaning s) c 0 ≡ Some first_version
+  unfolding pool_meaning
+  pool_version_0 = pool_first s.size.cards s.size.width s.size.places s.used (owned s) (kept_at s) c listed
+
+  pub pool_version_none : (k : ℕ) → newest_link.number < k → version_at (pool_meaning s) c k ≡ None
+  pool_version_none k past = slice_get_past ((pool_meaning s).line c) k (omega (arith, pool_versions))
+
   pub pool_newest : newest (pool_meaning s) c ≡ newest_link.number
   unfolding pool_meaning
-  pool_newest = ap pred (pool_length s.size.cards s.size.width s.size.places s.used (owned s) (kept_at s) c listed) ∙ sym newest_there.told
+  pool_newest = ap pred pool_versions
 
   pub number_small : newest_link.number ≤ s.used
   number_small = omega (arith, newest_there.told, tally_le (owned s) (kept_at s) c s.used)
@@ -109,6 +121,11 @@ module _ (s : PoolDrawer) (c : ℕ) (listed : c < s.size.cards) where
   -- the link that was read
   pub link_read : (x : Link) → x ≡ slice_index_or (vec_items s.newest) c x → x ≡ newest_link
   link_read x read = get_or_read_under (vec_items s.newest) c (vec_len s.newest) x no_link read (omega (arith, s.listed)) s.newest.ok.0
+
+-- a card that the shelf lacks has no version
+pub pool_absent : (s : PoolDrawer) (c k : ℕ) → s.size.cards ≤ c → version_at (pool_meaning s) c k ≡ None
+unfolding pool_meaning
+pool_absent s c k past = ap (λ l. slice_get l k) (pool_none s.size.cards s.size.width s.size.places s.used (owned s) (kept_at s) c past)
 
 -- the shelf with one version more
 module _ (s s' : PoolDrawer) (y : Chain) (t : Written) (listed : y.card.0 < s.size.cards) (free : s.used < s.size.places)

@@ -1,22 +1,24 @@
 -- What the fields of a row's drawers say of their meaning. Assumes nothing.
-use Rattle.std.specs.Prelude.{◌≡◌, ℕ, zero, suc, pred, ◌+◌, ◌-◌, ◌*◌, ◌<◌, ◌≤◌, Some, vec_items, vec_len, nat_lt, slice_index, slice_index_or, slice_set, refl, true, ◌&&◌, nat_le}
+use Rattle.std.specs.Prelude.{◌≡◌, ℕ, zero, suc, pred, ◌+◌, ◌-◌, ◌*◌, ◌<◌, ◌≤◌, length, Some, None, vec_items, vec_len, nat_lt, slice_index, slice_index_or, slice_set, refl, true, ◌&&◌, nat_le}
 use Rattle.std.proofs.Math.Path.{ap}
 use Rattle.std.proofs.Common.{◌∙◌, arith}
 use Rattle.std.proofs.Math.Arith.{digits_lt}
+use Rattle.std.specs.List.{slice_get}
+use Rattle.std.proofs.lemmas.Option.{slice_get_past}
 use Rattle.std.proofs.lemmas.List.{get_or_read_under, get_or-set_same, get_or-set_other}
 use Rattle.std.proofs.lemmas.Bool.{cond-true, lt-ltb, and_parts}
 use Rattle.drawers.specs.declared.places.Written.{Written}
 use Rattle.rows.specs.declared.row.RowMemory.{RowMemory}
 use Rattle.rows.specs.declared.row.RowDrawers.{RowDrawers}
 use Rattle.shelf.specs.declared.size.Size.{Size}
-use Rattle.shelf.specs.Meaning.{Version, version_at, newest}
+use Rattle.shelf.specs.Meaning.{Version, first_version, version_at, newest}
 use Rattle.shelf.specs.Sound.{Sound}
 use Rattle.drawers.specs.Fresh.{size_fits}
 use Rattle.drawers.specs.Places.{version_in, version_of, Wrote}
 use Rattle.shelf.specs.Putting.{added}
 use Rattle.rows.specs.Rows.{row_of}
 use Rattle.rows.specs.RowMeaning.{row_meaning, row_fits}
-use Rattle.rows.specs.RowsLemmas.{row_length, row_nth, row_sound, row_added}
+use Rattle.rows.specs.RowsLemmas.{row_length, row_first, row_nth, row_none, row_sound, row_added}
 use Rattle.drawers.proofs.Spots.{version_read, narrow_in, wrote_other, wrote_here}
 
 abbrev used_by : RowDrawers → ℕ → ℕ
@@ -53,9 +55,21 @@ module _ (s : RowDrawers) (c : ℕ) (listed : c < s.size.cards) where
   unfolding row_meaning
   row_free = cond-true (nat_lt c s.size.cards) (s.size.places - used_by s c) 0 (lt-ltb c s.size.cards listed)
 
+  pub row_versions : length ((row_meaning s).line c) ≡ suc (used_by s c)
+  unfolding row_meaning
+  row_versions = row_length s.size.cards s.size.width s.size.places (used_by s) (kept_at s) c listed
+
+  pub row_version_0 : version_at (row_meaning s) c 0 ≡ Some first_version
+  unfolding row_meaning
+  row_version_0 = row_first s.size.cards s.size.width s.size.places (used_by s) (kept_at s) c listed
+
+  pub row_version_none : (k : ℕ) → used_by s c < k → version_at (row_meaning s) c k ≡ None
+  unfolding row_meaning
+  row_version_none k past = slice_get_past ((row_meaning s).line c) k (omega (arith, row_versions))
+
   pub row_newest : newest (row_meaning s) c ≡ used_by s c
   unfolding row_meaning
-  row_newest = ap pred (row_length s.size.cards s.size.width s.size.places (used_by s) (kept_at s) c listed)
+  row_newest = ap pred row_versions
 
   -- what was read of a version
   pub row_version : (k : ℕ) (t : Written) → 0 < k → k ≤ used_by s c → t ≡ slice_index_or (vec_items s.places.written) (c * s.size.places + (k - 1)) t →
@@ -71,6 +85,11 @@ module _ (s : RowDrawers) (c : ℕ) (listed : c < s.size.cards) where
   -- the count that was read
   pub used_read : (n : ℕ) → n ≡ slice_index_or (vec_items s.used) c n → n ≡ used_by s c
   used_read n read = get_or_read_under (vec_items s.used) c (vec_len s.used) n 0 read (omega (arith, s.listed)) s.used.ok.0
+
+-- a card that the shelf lacks has no version
+pub row_absent : (s : RowDrawers) (c k : ℕ) → s.size.cards ≤ c → version_at (row_meaning s) c k ≡ None
+unfolding row_meaning
+row_absent s c k past = ap (λ l. slice_get l k) (row_none s.size.cards s.size.width s.size.places (used_by s) (kept_at s) c past)
 
 -- the shelf with one version more
 module _ (s s' : RowDrawers) (c : ℕ) (t : Written) (listed : c < s.size.cards) (free : used_by s c < s.size.places)

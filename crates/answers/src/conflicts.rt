@@ -46,7 +46,7 @@ impl<W: Listing> Listed<'_, W> {
         false
     }
 
-    // Whether the transaction with this owner has such a WRIT.
+    // Whether the transaction with this owner has such a WRIT. Like `stale`, but for the question: a common walk would take it as a closure.
     fn lost(&self, known: &Known, owner: usize) -> bool
         ensures { result ≡ is_lost self.now.entries.now known.now.dones.now known.now.forward.now known.now.backward.now owner }
     {
@@ -60,7 +60,8 @@ impl<W: Listing> Listed<'_, W> {
     }
 
     // Whether the transaction with this owner is committed and in conflict with an earlier writer, where the transactions that it depends on are
-    // marked in `forward`. Those that depend on it are searched for only where an earlier writer is not among them.
+    // marked in `forward`. Those that depend on it are searched for only where an earlier writer is not among them. The marks are lent each for itself,
+    // one to be read and one to be written.
     pub(crate) fn conflicting(
         &self,
         dones: &[Option<u16>; PLACES],

@@ -14,9 +14,9 @@ mod set_up;
 #[derive(Drop)]
 pub struct Books {
     table: OpenTable,
-    // The shelf's width at set-up.
+    // The shelf's width at set-up; before it no transaction is open that could be asked for.
     width: u32,
-    // The last number given, 0 before the first.
+    // The last number given, 0 before the first: the next is one more in either case, so no option is plainer.
     given: u32,
     journal: Journal,
     ghost numbers: { given ≤ 1000000 },

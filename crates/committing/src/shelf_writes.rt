@@ -9,7 +9,7 @@ use entries::{DraftEntry, ReadEntry, rising};
 use shelf::Shelf;
 use stamps::{CardNo, TxNo};
 
-// Whether two cards are kept in one drawer.
+// Whether two cards are kept in one drawer: no where the shelf lacks one, as the meaning has it.
 fn share<S: Shelf>(shelf: &S, one: CardNo, other: CardNo) -> bool
     ensures { result ≡ (S.meaning shelf.now).shares one.0 other.0 }
 {

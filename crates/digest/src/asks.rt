@@ -6,6 +6,7 @@ use super::entry::Entry;
 use records::Kind;
 use stamps::{CardNo, TxNo};
 
+// One comparison each: the three questions are the subject's words, and a question with the kind in it would only hide the comparison.
 impl Entry {
     pub fn is_read(&self) -> bool
         ensures { result ≡ read-kind self.now.kind }

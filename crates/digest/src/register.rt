@@ -58,6 +58,7 @@ impl<W: Listing> Register<W> {
         entries
     }
 
+    // This walk and the next are alike: each gives what it found, a place or a version, and a common one would take two closures.
     // The place of the transaction's first entry; the next place, where it has none yet.
     fn owner_of(&self, transaction: TxNo) -> u16
         ensures { result ≡ owner_in self.now.entries.items transaction.0 (length self.now.entries.items) }

@@ -9,7 +9,7 @@ mod calls;
 #[derive(Drop)]
 pub struct Journal {
     lines: Vec<Line>,
-    // How many lines there is memory for.
+    // How many lines there is memory for; a list may have room for more than it was made for.
     size: usize,
     ghost within: { vec_len lines ≤ size },
     ghost lent: { size ≤ vec_capacity lines },

@@ -5,7 +5,7 @@ ghost use Rattle.scan.specs.Scanning.{deed_card, deed_kind};
 use records::Kind;
 use stamps::CardNo;
 
-// What is asked of the records before a line: whether a transaction
+// What is asked of the records before a line, an enum so that each of the six places that ask names its question: whether a transaction
 #[derive(Clone, Copy)]
 pub(crate) enum Deed {
     // has ended,
@@ -17,7 +17,7 @@ pub(crate) enum Deed {
 }
 
 impl Deed {
-    // The card of a record that tells it, by which other records are passed over unread.
+    // The card of a record that tells it.
     pub(crate) fn card(self) -> CardNo
         ensures { result.0 ≡ deed_card self }
     {

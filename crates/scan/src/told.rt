@@ -14,7 +14,7 @@ use reach::Graph;
 #[derive(Drop)]
 pub(crate) struct Told<'a> {
     file: &'a [u8],
-    // How many records were taken in.
+    // How many records were taken in: as many as there are links, which a graph has no call to tell.
     count: usize,
     // The places of the records, an edge from the transaction's node for each.
     links: Graph,

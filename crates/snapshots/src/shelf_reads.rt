@@ -10,7 +10,7 @@ use entries::ReadEntry;
 use shelf::Shelf;
 use stamps::{CardNo, VersionNo};
 
-// The number of a card's newest version, 0 where the shelf lacks the card.
+// The number of a card's newest version, 0 where the shelf lacks the card: a number and no option, since that is what the rules compare.
 pub fn newest_of<S: Shelf>(shelf: &S, card: CardNo) -> VersionNo
     ensures { result.0 ≡ newest (S.meaning shelf.now) card.0 }
 {

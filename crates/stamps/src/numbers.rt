@@ -3,8 +3,8 @@ ghost use Rattle.std.specs.Prelude.{Some, decimal};
 use std::fmt;
 
 // Three kinds of count, each a type of its own, so that no call takes one for another: made as `CardNo(4)`, taken out by
-// `.0`, compared and ordered by the number, and shown as the number in decimal. No derive says how a number is shown, so
-// each of them does.
+// `.0`, compared and ordered by the number, and shown as the number in decimal. No derive with a contract says how a number is shown (of what the
+// library's derive for errors writes nothing is known), so each of them does.
 
 // A card's number, from 0.
 #[derive(Clone, Copy, PartialEq, Eq, PartialOrd, Ord, Debug)]

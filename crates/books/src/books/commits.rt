@@ -38,7 +38,8 @@ impl Books {
         Ok(())
     }
 
-    // Writes the block of the transaction in a place into the journal, and puts its drafts.
+    // Writes the block of the transaction in a place into the journal, and puts its drafts. The place and the number come from one search; a value
+    // of both would say no more, since what it says ends when the table changes.
     fn write_out<S: Shelf>(&mut self, shelf: &mut S, place: usize, number: TxNo)
         requires taken { taken (state_of self.old).places place ≡ true }
         requires number { (at (state_of self.old).places place).number ≡ number.0 }

@@ -20,7 +20,8 @@ impl Graph {
         }
     }
 
-    // Adds the edge, and says so; refuses a node past the last, and an edge more than there is room for.
+    // Adds the edge, and says so; refuses a node past the last, and an edge more than there is room for. A yes or no: an error would say no more to who
+    // knows how many nodes and edges it has.
     pub fn add(&mut self, from: usize, to: usize) -> bool
         ensures added { edges self.new ≡ (if result then edges self.old ++ (from, to) ∷ [] else edges self.old) }
         ensures taken { result ≡ taken self.old from to }

@@ -33,6 +33,17 @@ pub enum Kind {
     LongReader = 3,
 }
 
+impl Kind {
+    // How many transactions are open at a time.
+    fn open(self, work: &Work) -> u32 {
+        match self {
+            Kind::Reads | Kind::Drafts => 1,
+            Kind::Hot => work.open,
+            Kind::LongReader => 2,
+        }
+    }
+}
+
 // A checksum of answers.
 #[derive(Default)]
 pub struct Sum(pub u64);
@@ -188,7 +199,7 @@ fn line(name: &str, make: Make, make_name: &str, kind: Kind, work: Work) {
         "| {name} | {make_name} | {} | {} | {} | {proved:.0} | {unverified:.0} | {sqlite:.0} | {:.2} | {:.1} |",
         work.cards,
         work.depth,
-        work.open,
+        kind.open(&work),
         unverified / proved,
         proved / sqlite
     );

@@ -7,7 +7,7 @@ use shelves::{
 };
 use stamps::{CardNo, VersionNo};
 use std::alloc::{AllocError, Global};
-use std::io;
+use std::{fmt, io};
 
 // The shelf that a session works with.
 #[derive(Drop)]
@@ -66,12 +66,9 @@ fn placed<D: Drawers>(heap: Global, size: Size) -> Result<Fitted<PlacedShelf<D>>
 fn ask<S: Shelf>(rt: &HostRuntime, shelf: &mut S, question: Question) -> io::Result<()> {
     match question {
         Question::Put(entry) => put(rt, shelf, entry),
-        Question::Versions(card) => count(rt, shelf.versions(card)),
-        Question::Free(card) => count(rt, shelf.free(card)),
-        Question::Shares(one, other) => match shelf.shares(one, other) {
-            Some(shared) => println!(rt; "{shared}"),
-            None => println!(rt; "absent"),
-        },
+        Question::Versions(card) => tell(rt, shelf.versions(card)),
+        Question::Free(card) => tell(rt, shelf.free(card)),
+        Question::Shares(one, other) => tell(rt, shelf.shares(one, other)),
         Question::Version(card, version) => show(rt, shelf, card, version),
         Question::Stamp(card, version) => stamp(rt, shelf, card, version),
     }
@@ -86,9 +83,10 @@ fn put<S: Shelf>(rt: &HostRuntime, shelf: &mut S, entry: Entry) -> io::Result<()
     }
 }
 
-fn count(rt: &HostRuntime, n: Option<u32>) -> io::Result<()> {
-    match n {
-        Some(n) => println!(rt; "{n}"),
+// Prints an answer, or that there is none.
+fn tell<T: Copy + fmt::Display>(rt: &HostRuntime, answer: Option<T>) -> io::Result<()> {
+    match answer {
+        Some(answer) => println!(rt; "{answer}"),
         None => println!(rt; "absent"),
     }
 }
@@ -109,14 +107,9 @@ fn stamp<S: Shelf>(
     card: CardNo,
     version: VersionNo,
 ) -> io::Result<()> {
-    match shelf.stamp(card, version) {
-        Some(stamp) => println!(rt;
-            "{}",
-            Counts {
-                stamp,
-                cards: shelf.width()
-            }
-        ),
-        None => println!(rt; "absent"),
-    }
+    let cards = shelf.width();
+    let counts = shelf
+        .stamp(card, version)
+        .map(|stamp| Counts { stamp, cards });
+    tell(rt, counts)
 }

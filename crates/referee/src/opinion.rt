@@ -1,3 +1,4 @@
+use records::RecordFault;
 use std::fmt;
 
 // Of each property, whether it holds of a history; of its own, since the two judges share no answer's type and no text.
@@ -34,6 +35,20 @@ impl Cause {
 
     pub fn number(self) -> u32 {
         self as u32
+    }
+}
+
+// A record's fault as the cause of a refusal.
+impl From<RecordFault> for Cause {
+    fn from(fault: RecordFault) -> Cause {
+        match fault {
+            RecordFault::Length => Cause::Cut,
+            RecordFault::Kind
+            | RecordFault::Transaction
+            | RecordFault::Card
+            | RecordFault::Writer
+            | RecordFault::Words => Cause::BadField,
+        }
     }
 }
 

@@ -1,7 +1,7 @@
 use super::matrix::Matrix;
 use super::opinion::{Cause, Letters, Opinion, Refusal};
 use super::tables::{Tables, Use};
-use records::{Line, RECORD_SIZE, RecordFault};
+use records::{Line, RECORD_SIZE};
 use stamps::{CardNo, TxNo};
 use std::alloc::{AllocError, Global};
 use std::collections::BTreeMap;
@@ -80,7 +80,10 @@ fn test_size(bytes: usize, marks: usize) -> Result<(), Refusal> {
 // Takes in record after record, up to the first that is bad or out of place.
 fn fill(tables: &mut Tables, file: &[u8]) -> Result<(), Stop> {
     for (place, part) in file.chunks_exact(RECORD_SIZE).enumerate() {
-        let line = Line::decode(part).map_err(|fault| bad_record(fault, place))?;
+        let line = Line::decode(part).map_err(|fault| Refusal {
+            cause: Cause::from(fault),
+            place,
+        })?;
         if !tables.fits(&line) {
             return Err(Stop::Refused(Refusal {
                 cause: Cause::OutOfPlace,
@@ -90,18 +93,6 @@ fn fill(tables: &mut Tables, file: &[u8]) -> Result<(), Stop> {
         tables.take(place, &line)?;
     }
     Ok(())
-}
-
-fn bad_record(fault: RecordFault, place: usize) -> Refusal {
-    let cause = match fault {
-        RecordFault::Length => Cause::Cut,
-        RecordFault::Kind
-        | RecordFault::Transaction
-        | RecordFault::Card
-        | RecordFault::Writer
-        | RecordFault::Words => Cause::BadField,
-    };
-    Refusal { cause, place }
 }
 
 // Who depends on whom: the transactions are numbered in rising order, and a matrix has a row and a column for each.

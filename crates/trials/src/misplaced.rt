@@ -118,12 +118,16 @@ fn add_after_end(lines: &mut Vec<Line>, dice: &mut Dice) -> Result<(), AllocErro
     let Some((place, end)) = some_line(lines.as_slice(), kind, dice) else {
         return Ok(());
     };
-    let late = match dice.below(3) {
-        0 => done(end.transaction),
-        1 => gone(end.transaction),
-        _ => read(end.transaction, FOREIGN_CARD, NOBODY),
-    };
-    insert_behind(lines, place, late, dice)
+    let transaction = end.transaction;
+    let choices = [
+        done(transaction),
+        gone(transaction),
+        read(transaction, FOREIGN_CARD, NOBODY),
+    ];
+    match dice.pick(&choices) {
+        Some(late) => insert_behind(lines, place, late, dice),
+        None => Ok(()),
+    }
 }
 
 // Reads what a WRIT at that place or further down writes.

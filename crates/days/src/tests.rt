@@ -122,7 +122,7 @@ fn goes<S: Shelf>(heap: Global, shelf: &mut S) -> Result<bool, AllocError> {
     Ok(right)
 }
 
-// A shelf of so many cards, with these places in each drawer and three counts in a stamp.
+// A shelf of so many cards, with these places in each drawer and three counts in a stamp. Reserve, then new, as in workloads and the shelves' tests: one function for the three would be a crate, or a call of the store more, for two lines.
 fn placed<D: Drawers>(heap: Global, cards: u32, places: u32) -> Result<PlacedShelf<D>, AllocError> {
     let size = Size {
         cards,

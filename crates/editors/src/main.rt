@@ -35,6 +35,7 @@ fn session(rt: &HostRuntime, lines: &[String]) -> io::Result<()> {
     let Some(shelf) = find_shelf(rt, &mut lines)? else {
         return Ok(());
     };
+    // One call for each make, since each arm has a shelf of another type.
     match shelf {
         Made::Row(shelf) => day(rt, shelf, lines),
         Made::Pool(shelf) => day(rt, shelf, lines),

@@ -1,7 +1,7 @@
 // What stands in the books.
 use stamps::{CardNo, TxNo, Value, VersionNo};
 
-// A card that a transaction has read, with the version read.
+// A card that a transaction has read, with the version read. It and a draft are two types, since they hold different things, by the words of the subject; what they share is one line, `Numbered`.
 #[derive(Clone, Copy)]
 pub struct ReadEntry {
     pub card: CardNo,

@@ -34,6 +34,7 @@ pub fn answer(
                 Err(refusal) => println!(rt; "REFUSED {}", refusal.number()),
             }
         }
+        // One call for each make, since each arm has a shelf of another type.
         Command::Ask(question) => match held {
             None => println!(rt; "no shelf"),
             Some(Held::Row(shelf)) => ask(rt, shelf, question),

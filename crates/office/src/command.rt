@@ -47,6 +47,7 @@ pub enum Unread {
     NoMemory(AllocError),
 }
 
+// This and the next by hand: a derived `#[from]` would keep the fault, and want for each variant a text that nobody prints.
 impl From<ParseIntError> for Unread {
     fn from(_: ParseIntError) -> Unread {
         Unread::NotUnderstood

@@ -4,7 +4,7 @@ ghost use Rattle.std.specs.Prelude.{◌≡◌, ◌+◌, ◌<◌, if◌then◌els
 use stamps::{CardNo, VersionNo};
 
 // Leads to a version: its number, and its place. Version 0 is in no place: a link's number is counted and compared wherever
-// it is used, and as an Option each of these uses would have to put 0 back for it.
+// it is used, and as an Option each of these uses would have to put 0 back for it. A place's number and no reference, since the memory is handed over as owned lists, which the pool itself keeps.
 #[derive(Clone, Copy)]
 pub struct Link {
     pub number: u32,

@@ -8,7 +8,7 @@ use std::collections::BTreeMap;
 
 const LARGEST_FILE: usize = 65_536;
 
-// Why no verdict is given: the file is refused, or there is no memory for the tables.
+// Why no verdict is given: the file is refused, or there is no memory for the tables. `From` is by hand: the derived `#[from]` of an error type wants for each variant a text that nobody prints.
 #[derive(Clone, Copy)]
 enum Stop {
     Refused(Refusal),

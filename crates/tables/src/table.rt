@@ -18,7 +18,7 @@ pub(crate) const PLACES: usize = 16;
 // How many cards a transaction may draft.
 pub const DRAFTS: usize = 32;
 
-// The open list, and for each of its places in use a row of read entries, one for each card, and a row of 32 drafts.
+// The open list, and for each of its places in use a row of read entries, one for each card, and a row of 32 drafts. Three flat lists and a number, since the memory is handed over as owned lists, longer ones too, and set-up allocates nothing.
 #[derive(Drop)]
 pub struct OpenTable {
     places: Vec<OpenPlace>,

@@ -34,6 +34,7 @@ pub(crate) fn on_split<W: Work>(heap: Global, work: &W) -> Result<u64, AllocErro
     work.work_on(heap, &mut SplitShelf::new(left, right))
 }
 
+// Reserve, then new, as the days' tests and the shelves' tests have it too: one function for the three would be a crate, or a call of the store more, for two lines.
 fn placed<D: Drawers>(heap: Global, size: Size) -> Result<PlacedShelf<D>, AllocError> {
     let memory = D::reserve(heap, size.cards, size.places)?;
     Ok(PlacedShelf::new(memory, size))

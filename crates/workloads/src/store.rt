@@ -87,7 +87,7 @@ impl Work for ShelfWork {
     }
 }
 
-// Work on a row, a pool and a split of two pools: its checksum, 0 where memory is wanting.
+// Work on a row, a pool and a split of two pools: its checksum, 0 where memory is wanting, since C takes no option.
 #[unsafe(no_mangle)]
 pub extern "C" fn workload_row(heap: Global, work: &ShelfWork) -> u64 {
     on_drawers::<RowDrawers, _>(heap, work).unwrap_or(0)

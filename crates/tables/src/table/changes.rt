@@ -34,7 +34,7 @@ impl OpenTable {
     }
 
     // Enters a card that the transaction in a place reads for the first time. That a place is taken is a fact about the table as it stands, so no type of a place
-    // can hold it; it is asked where an entry is written.
+    // can hold it; it is asked where an entry is written. Apart from `add_draft`, which writes another type into another list and counts it in another field: one call for both would take a closure for each of these.
     pub fn enter_read(&mut self, place: usize, entry: ReadEntry)
         requires taken { takes (list_of self.old) place ≡ true }
         requires listed { entry.card.0 < (table_of self.old).cards }

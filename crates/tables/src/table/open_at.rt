@@ -26,6 +26,7 @@ impl OpenTable {
     }
 }
 
+// Each question comes twice, of the reads and of the drafts: the lists hold entries of two types, and one call for both would take a closure for the list and one for what to tell of an entry.
 impl<'a> OpenAt<'a> {
     // The cards that it has read, none where there is no transaction.
     pub fn reads(&self) -> &'a [ReadEntry]

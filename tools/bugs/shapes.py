@@ -1,0 +1,115 @@
+"""Bugs in what takes several lines: a struct's fields, a match's arms, a function's answer. Each yields what the bug is, and the lines that it puts for others, by their
+numbers; None: the line is dropped."""
+import itertools
+import re
+
+from bugs.functions import is_code
+from bugs.lines import CASE, FIELD, alike, field, with_values_swapped
+
+OPENS = re.compile(r"\b[A-Z]\w*(?:::<\w+>)? \{$")
+
+
+def swapped_fields(lines, span):
+    """Of a struct that has a line for each field: the values of two exchanged."""
+    for n in span:
+        if not OPENS.search(lines[n]):
+            continue
+        deep = len(lines[n]) - len(lines[n].lstrip()) + 4
+        within = itertools.takewhile(lambda k: lines[k].startswith(" " * deep), range(n + 1, span[-1] + 1))
+        rows = [k for k in within if lines[k][deep : deep + 1] != " " and field(lines[k].strip().rstrip(","))]
+        for i, j in itertools.combinations(rows, 2):
+            pair = [field(lines[k].strip().rstrip(",")) for k in (i, j)]
+            if alike(pair[0][1], pair[1][1]):
+                told = [f"{' ' * deep}{a}: {v}," for a, v in with_values_swapped(*pair)]
+                yield "swapped fields", {i: told[0], j: told[1]}
+
+
+def swapped_rows(lines, span):
+    """Of a call that has a line for each argument: two neighbours exchanged."""
+    for n in span:
+        if re.search(r"\w\($", lines[n]):
+            for k in range(n + 1, span[-1]):
+                if not (FIELD.match(lines[k]) and FIELD.match(lines[k + 1])):
+                    break
+                if alike(lines[k].strip(), lines[k + 1].strip()):
+                    yield "swapped arguments", {k: lines[k + 1], k + 1: lines[k]}
+
+
+def arms_of(lines, span, start):
+    """The arms of the match that begins on a line: of each its pattern, its body on one line if it has that, and its lines."""
+    deep = len(lines[start]) - len(lines[start].lstrip()) + 4
+    arms = []
+    for n in itertools.takewhile(lambda k: lines[k].startswith(" " * deep), range(start + 1, span[-1] + 1)):
+        begins = lines[n][deep] not in " |}"
+        if begins:
+            arms.append(("", None, []))
+        if arms:
+            arms[-1][2].append(n)
+            pattern, arrow, body = lines[n].strip().partition(" => ")
+            if begins or lines[n][deep] == "|":
+                arms[-1] = ((arms[-1][0] + " " + pattern).strip(), body.rstrip(",") if arrow and body.endswith(",") else None, arms[-1][2])
+    return deep, arms
+
+
+def covers(other, pattern):
+    """Whether a match still has an arm for all that a pattern takes: only plain cases are seen."""
+    bound, taken = re.match(r"^([\w:]+)\([a-z_]\w*\)$", other), re.match(r"^([\w:]+)\(", pattern)
+    return re.match(r"^[a-z_]\w*$", other) or other == pattern.split(" if ")[0] or bound and taken and bound.group(1) == taken.group(1)
+
+
+def missed_cases(lines, span):
+    """An arm dropped that another takes the place of, or that has another's body, or one of its cases under its neighbour."""
+    for start in span:
+        if not re.search(r"\bmatch .*\{$", lines[start]):
+            continue
+        deep, arms = arms_of(lines, span, start)
+        for (pattern, body, where), later in zip(arms, arms[1:] + arms[:1]):
+            if any(covers(other, pattern) for other, _, _ in arms if other != pattern):
+                yield "a case missed", {n: None for n in where}
+            if body and later[1] and body != later[1]:
+                yield "another case's answer", {**{n: None for n in where}, where[0]: f"{' ' * deep}{pattern} => {later[1]},"}
+            kept, bar, last = pattern.rpartition(" | ")
+            if bar and body and later[1] and len(later[2]) == 1:
+                n, m = where[0], later[2][0]
+                told = {n: f"{' ' * deep}{kept} => {body},", m: f"{' ' * deep}{last} | {later[0]} => {later[1]},"}
+                yield "a case under another", {**{k: None for k in where}, **told}
+
+
+def exchanged_cases(lines, span):
+    """Two cases of an enum that a function names, exchanged all through it."""
+    named = [m for n in span if is_code(lines[n]) for m in CASE.findall(lines[n])]
+    for one, other in itertools.combinations(dict.fromkeys(named), 2):
+        if one[0] == other[0]:
+            turn = {"::".join(one): "::".join(other), "::".join(other): "::".join(one)}
+            told = {n: CASE.sub(lambda m: turn.get(m.group(0), m.group(0)), lines[n]) for n in span if is_code(lines[n])}
+            yield "two cases exchanged", {n: line for n, line in told.items() if line != lines[n]}
+
+
+def early_answers(function, lines):
+    """What a function may answer at once: the answer of its first return, or a plain one of its type."""
+    taken = [lines[n].strip() for n in function.span if re.match(r"\s*return\b.*;$", lines[n])]
+    _, arrow, given = function.head.rpartition(" -> ")
+    given = given.split("\n")[0].strip(" {")
+    if not arrow:
+        return taken[:1] or ["return;"]
+    plain = {"bool": ["return false;", "return true;"], "u16": ["return 0;"], "u32": ["return 0;"], "usize": ["return 0;"]}.get(given, [])
+    if given.startswith("Option<"):
+        plain = ["return None;"]
+    if given.startswith("Result<(),"):
+        plain = ["return Ok(());"]
+    refusals = re.findall(r"\b(?:Err|ok_or)\((\w*(?:Refusal|Fault)::\w+)\)", "\n".join(lines[n] for n in function.span))
+    return list(dict.fromkeys(taken[:1] + plain + [f"return Err({r});" for r in refusals[:1]]))
+
+
+def early(function, lines):
+    body = [lines[n].strip() for n in function.span if is_code(lines[n])]
+    for answer in early_answers(function, lines) if function.head else []:
+        if len(body) > 1 or body != [answer[7:-1]]:
+            yield "an early return", {function.span[0]: f"if true {{ {answer} }}\n{lines[function.span[0]]}"}
+
+
+def in_shape(function, lines):
+    """All bugs of a function that are not in one line."""
+    yield from early(function, lines)
+    for kind in (swapped_fields, swapped_rows, missed_cases, exchanged_cases):
+        yield from kind(lines, function.span)

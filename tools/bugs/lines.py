@@ -41,8 +41,8 @@ CASE = re.compile(r"\b([A-Z]\w*)::([A-Z][a-z]\w*)\b")
 CALL = re.compile(r"(?:\b\w+|>)\(")
 FIELD = re.compile(r"^\s+(\w+)(?:: (.+))?,$")
 INLINE = re.compile(r"(\b[A-Z]\w* )\{ ([^{}]+) \}")
-# lent to change, lent, a number, a case, a struct, a call
-LOOKS = [r"&mut ", r"&", r"\d", r"[A-Z]\w*::[A-Z]", r"[A-Z]\w* \{", r"\w+(::\w+)*\("]
+# lent to change, lent, a number, a case, a struct, a call, what a method answers
+LOOKS = [r"&mut ", r"&", r"\d", r"[A-Z]\w*::[A-Z]", r"[A-Z]\w* \{", r"\w+(::\w+)*\(", r".*\)$"]
 WRAPPED = re.compile(r"^(\w+)\((.*)\)$")
 
 
@@ -80,9 +80,18 @@ def look(text):
     return next((n for n, pattern in enumerate(LOOKS) if re.match(pattern, text)), None)
 
 
-def alike(one, other):
+def types_of(value, types):
+    """The types with which the crate's code declares the name that a value ends in; none where it declares no such name."""
+    name = re.fullmatch(r"[&*]?(?:mut )?(?:\w+\.)*([a-z]\w*)", value)
+    return {"Self"} if value == "self" else types.get(name.group(1), set()) if name else set()
+
+
+def alike(one, other, types):
     """Whether two values may have one type: else the compiler refuses their exchange, which tells nothing."""
-    return one != other and "{" not in one[-1:] + other[-1:] and look(one) == look(other)
+    if one == other or "{" in one[-1:] + other[-1:] or look(one) != look(other):
+        return False
+    known = types_of(one, types), types_of(other, types)
+    return not all(known) or bool(known[0] & known[1])
 
 
 def swapped(parts, i, j):
@@ -91,12 +100,12 @@ def swapped(parts, i, j):
     return parts
 
 
-def swapped_arguments(line):
+def swapped_arguments(line, types):
     for m in CALL.finditer(line):
         end = closing(line, m.end() - 1)
         parts = pieces(line[m.end() : end]) if end else []
         for i in range(len(parts) - 1):
-            if alike(parts[i], parts[i + 1]):
+            if alike(parts[i], parts[i + 1], types):
                 yield "swapped arguments", line[: m.end()] + ", ".join(swapped(parts, i, i + 1)) + line[end:]
 
 
@@ -115,12 +124,12 @@ def field(text):
     return (m.group(1), m.group(2) or m.group(1)) if m and m.group(1) != "_" else None
 
 
-def swapped_inline(line):
+def swapped_inline(line, types):
     for m in INLINE.finditer(line):
         parts = pieces(m.group(2))
         fields = [field(p) for p in parts]
         for i, j in itertools.combinations(range(len(parts)), 2):
-            if fields[i] and fields[j] and alike(fields[i][1], fields[j][1]):
+            if fields[i] and fields[j] and alike(fields[i][1], fields[j][1], types):
                 told = list(parts)
                 told[i], told[j] = (f"{a}: {v}" for a, v in with_values_swapped(fields[i], fields[j]))
                 yield "swapped fields", put(line, m, f"{m.group(1)}{{ {', '.join(told)} }}")
@@ -145,16 +154,17 @@ def form_of(word, dot, call):
     return rf"{before}\b{word}\b" + (r"(?=\()" if call else r"(?![(:]| \}|,$)")
 
 
-def renamed(function, lines, line, cases):
+def renamed(function, lines, line, crate):
     """A line with another word or another case."""
-    for old, new in [p for pair in WORDS for p in (pair, pair[::-1])]:
+    for old, new in [p for pair in WORDS for p in (pair, pair[::-1]) if alike(*pair, crate.types)]:
         for dot, call in ((False, False), (True, False), (True, True)):
             where = lines if dot and not call else [function.head] + [lines[n] for n in function.span]
             if any(re.search(form_of(new, dot, call), l) for l in where):
                 for m in re.finditer(form_of(old, dot, call), line):
                     yield f"{new} for {old}", put(line, m, new)
-    for m in CASE.finditer(line):
-        named = sorted(cases[m.group(1)])
+    # before an arm's arrow the match would lack the case that is taken away
+    for m in CASE.finditer(line, line.find(" => ") + 1):
+        named = sorted(crate.cases[m.group(1)])
         if len(named) > 1:
             yield "another case", put(line, m, f"{m.group(1)}::{named[(named.index(m.group(2)) + 1) % len(named)]}")
 
@@ -165,6 +175,7 @@ def dropped(line):
         yield "a step dropped", None
 
 
-def in_line(function, lines, line, cases):
+def in_line(function, lines, line, crate):
     """All bugs of one line of a function."""
-    return itertools.chain(turned(line), renamed(function, lines, line, cases), swapped_arguments(line), swapped_inline(line), dropped(line))
+    swaps = swapped_arguments(line, crate.types), swapped_inline(line, crate.types)
+    return itertools.chain(turned(line), renamed(function, lines, line, crate), *swaps, dropped(line))

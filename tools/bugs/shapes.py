@@ -9,7 +9,7 @@ from bugs.lines import CASE, FIELD, alike, field, with_values_swapped
 OPENS = re.compile(r"\b[A-Z]\w*(?:::<\w+>)? \{$")
 
 
-def swapped_fields(lines, span):
+def swapped_fields(lines, span, types):
     """Of a struct that has a line for each field: the values of two exchanged."""
     for n in span:
         if not OPENS.search(lines[n]):
@@ -19,19 +19,19 @@ def swapped_fields(lines, span):
         rows = [k for k in within if lines[k][deep : deep + 1] != " " and field(lines[k].strip().rstrip(","))]
         for i, j in itertools.combinations(rows, 2):
             pair = [field(lines[k].strip().rstrip(",")) for k in (i, j)]
-            if alike(pair[0][1], pair[1][1]):
+            if alike(pair[0][1], pair[1][1], types):
                 told = [f"{' ' * deep}{a}: {v}," for a, v in with_values_swapped(*pair)]
                 yield "swapped fields", {i: told[0], j: told[1]}
 
 
-def swapped_rows(lines, span):
+def swapped_rows(lines, span, types):
     """Of a call that has a line for each argument: two neighbours exchanged."""
     for n in span:
         if re.search(r"\w\($", lines[n]):
             for k in range(n + 1, span[-1]):
                 if not (FIELD.match(lines[k]) and FIELD.match(lines[k + 1])):
                     break
-                if alike(lines[k].strip(), lines[k + 1].strip()):
+                if alike(lines[k].strip(" ,"), lines[k + 1].strip(" ,"), types):
                     yield "swapped arguments", {k: lines[k + 1], k + 1: lines[k]}
 
 
@@ -97,8 +97,9 @@ def early_answers(function, lines):
         plain = ["return None;"]
     if given.startswith("Result<(),"):
         plain = ["return Ok(());"]
-    refusals = re.findall(r"\b(?:Err|ok_or)\((\w*(?:Refusal|Fault)::\w+)\)", "\n".join(lines[n] for n in function.span))
-    return list(dict.fromkeys(taken[:1] + plain + [f"return Err({r});" for r in refusals[:1]]))
+    refusals = re.findall(r"\b(?:Err|ok_or)\(((\w+)::\w+)\)", "\n".join(lines[n] for n in function.span))
+    refused = [f"return Err({case});" for case, enum in refusals if enum in given]
+    return list(dict.fromkeys(taken[:1] + plain + refused[:1]))
 
 
 def early(function, lines):
@@ -108,8 +109,10 @@ def early(function, lines):
             yield "an early return", {function.span[0]: f"if true {{ {answer} }}\n{lines[function.span[0]]}"}
 
 
-def in_shape(function, lines):
+def in_shape(function, lines, types):
     """All bugs of a function that are not in one line."""
     yield from early(function, lines)
-    for kind in (swapped_fields, swapped_rows, missed_cases, exchanged_cases):
-        yield from kind(lines, function.span)
+    yield from swapped_fields(lines, function.span, types)
+    yield from swapped_rows(lines, function.span, types)
+    yield from missed_cases(lines, function.span)
+    yield from exchanged_cases(lines, function.span)

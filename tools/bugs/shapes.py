@@ -35,20 +35,31 @@ def swapped_rows(lines, span, types):
                     yield "swapped arguments", {k: lines[k + 1], k + 1: lines[k]}
 
 
+class Arm:
+    """An arm of a match: its lines, its pattern, and its body where that is on one line with the pattern's end."""
+
+    def __init__(self):
+        self.where, self.pattern, self.body = [], "", None
+
+    def take(self, n, line):
+        """One more line of it; a pattern's further lines begin with a bar."""
+        self.where.append(n)
+        if len(self.where) == 1 or line.startswith("|"):
+            pattern, arrow, body = line.partition(" => ")
+            self.pattern = f"{self.pattern} {pattern}".strip()
+            self.body = body.rstrip(",") if arrow and body.endswith(",") else None
+
+
 def arms_of(lines, span, start):
-    """The arms of the match that begins on a line: of each its pattern, its body on one line if it has that, and its lines."""
+    """How deep the arms of the match stand that begins on a line, and the arms."""
     deep = len(lines[start]) - len(lines[start].lstrip()) + 4
     arms = []
     for n in itertools.takewhile(lambda k: lines[k].startswith(" " * deep), range(start + 1, span[-1] + 1)):
-        begins = lines[n][deep] not in " |}"
-        if begins:
-            arms.append(("", None, []))
+        if lines[n][deep] not in " |}":
+            arms.append(Arm())
         if arms:
-            arms[-1][2].append(n)
-            pattern, arrow, body = lines[n].strip().partition(" => ")
-            if begins or lines[n][deep] == "|":
-                arms[-1] = ((arms[-1][0] + " " + pattern).strip(), body.rstrip(",") if arrow and body.endswith(",") else None, arms[-1][2])
-    return deep, arms
+            arms[-1].take(n, lines[n][deep:])
+    return " " * deep, arms
 
 
 def covers(other, pattern):
@@ -59,20 +70,20 @@ def covers(other, pattern):
 
 def missed_cases(lines, span):
     """An arm dropped that another takes the place of, or that has another's body, or one of its cases under its neighbour."""
-    for start in span:
-        if not re.search(r"\bmatch .*\{$", lines[start]):
-            continue
-        deep, arms = arms_of(lines, span, start)
-        for (pattern, body, where), later in zip(arms, arms[1:] + arms[:1]):
-            if any(covers(other, pattern) for other, _, _ in arms if other != pattern):
-                yield "a case missed", {n: None for n in where}
-            if body and later[1] and body != later[1]:
-                yield "another case's answer", {**{n: None for n in where}, where[0]: f"{' ' * deep}{pattern} => {later[1]},"}
-            kept, bar, last = pattern.rpartition(" | ")
-            if bar and body and later[1] and len(later[2]) == 1:
-                n, m = where[0], later[2][0]
-                told = {n: f"{' ' * deep}{kept} => {body},", m: f"{' ' * deep}{last} | {later[0]} => {later[1]},"}
-                yield "a case under another", {**{k: None for k in where}, **told}
+    for start in [n for n in span if re.search(r"\bmatch .*\{$", lines[n])]:
+        indent, arms = arms_of(lines, span, start)
+        for arm, later in zip(arms, arms[1:] + arms[:1]):
+            gone = {n: None for n in arm.where}
+            if any(covers(other.pattern, arm.pattern) for other in arms if other.pattern != arm.pattern):
+                yield "a case missed", gone
+            if not (arm.body and later.body):
+                continue
+            if arm.body != later.body:
+                yield "another case's answer", {**gone, arm.where[0]: f"{indent}{arm.pattern} => {later.body},"}
+            kept, bar, last = arm.pattern.rpartition(" | ")
+            if bar and len(later.where) == 1:
+                told = {arm.where[0]: f"{indent}{kept} => {arm.body},", later.where[0]: f"{indent}{last} | {later.pattern} => {later.body},"}
+                yield "a case under another", {**gone, **told}
 
 
 def exchanged_cases(lines, span):

@@ -171,7 +171,7 @@ def renamed(function, lines, line, crate):
 
 def dropped(line):
     code = line.strip()
-    if code.endswith(";") and not re.match(r"(let|return|break|continue|use|const|pub|\}|\))", code) and re.search(r" = |\+=|\);$|\)\?;$", code):
+    if code.endswith(";") and not re.match(r"(\.|let|return|break|continue|use|const|pub|\}|\))", code) and re.search(r" = |\+=|\);$|\)\?;$", code):
         yield "a step dropped", None
 
 

@@ -1,11 +1,11 @@
 ghost use Rattle.std.specs.Prelude.{◌≡◌, ◌+◌, ◌^◌, ◌<◌, Some};
-ghost use Rattle.dump.specs.Dump.{none_counted, total as total_of, counted_in, counts_text};
+ghost use Rattle.dump.specs.Dump.{total as total_of, counted_in, counts_text};
 
 use history::Kind;
 use std::fmt;
 
 // How many records of each kind have come.
-#[derive(Clone, Copy)]
+#[derive(Clone, Copy, Default)]
 pub struct Counts {
     pub reads: u32,
     pub writs: u32,
@@ -14,17 +14,6 @@ pub struct Counts {
 }
 
 impl Counts {
-    pub fn none() -> Counts
-        ensures { result ≡ none_counted }
-    {
-        Counts {
-            reads: 0,
-            writs: 0,
-            dones: 0,
-            gones: 0,
-        }
-    }
-
     // Counts one record more.
     pub fn add(&mut self, kind: Kind)
         requires { total_of self.old + 1 < 2 ^ 32 }

@@ -44,7 +44,7 @@ fn write_lines(text: &mut String, file: &[u8]) -> Result<Counts, Stop>
     ensures { Leads (string_bytes text.old) (string_bytes text.new) (dump_text file.now) result }
 {
     whole_records(file)?;
-    let mut counts = Counts::none();
+    let mut counts = Counts::default();
     for (place, part) in RecordReader::new(file).enumerate() {
         let line = line_at(part, place)?;
         writeln!(text, "{line}").map_err(fmt::Error::from)?;

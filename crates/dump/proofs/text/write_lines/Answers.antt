@@ -5,7 +5,7 @@ use Rattle.records.proofs.Parts.{numbers_fit, numbered_next, numbered_all}
 use Rattle.records.specs.Words.{line_text}
 use Rattle.rules.specs.Rules.{counted}
 use Rattle.rules.proofs.Accepted.{size_known}
-use Rattle.dump.specs.Dump.{total, text_from, text_of_size, dump_text}
+use Rattle.dump.specs.Dump.{none_counted, total, text_from, text_of_size, dump_text}
 use Rattle.history.specs.Texts.{with_newline}
 use Rattle.dump.proofs.Onward.{total_more, onward, stops, read_there}
 use Rattle.dump.proofs.text.write_lines.Goals as goal
@@ -22,11 +22,13 @@ loop-place-init c =
     let size : counted bs ≡ Ok n = sym c.whole_records.ensures ∙ c.in_ok-whole_records.was in
     let (many, few) = size_known bs n size in
     let all : records_in bs - 0 ≡ n = omega arith in
-    let text : text_from bs 0 (records_in bs - 0) c.none-counts.result ≡ dump_text bs =
-    (λ z. text_from bs 0 (all z) (c.none-counts.ensures z)) ∙ sym (ap (text_of_size bs) size) in
+    let zeros = c.default-counts.ensures in
+    let none : c.default-counts.result ≡ none_counted = (λ z. record { reads = zeros.0 z; writs = zeros.1.0 z; dones = zeros.1.1.0 z; gones = zeros.1.1.1 z }) in
+    let text : text_from bs 0 (records_in bs - 0) c.default-counts.result ≡ dump_text bs =
+    (λ z. text_from bs 0 (all z) (none z)) ∙ sym (ap (text_of_size bs) size) in
     let fit = numbers_fit bs c.new.result c.new.ensures.bytes c.new.ensures.place c.into_iter-place-iterator.result c.enumerate-place-items.result c.into_iter-place-iterator.ensures.into_iter_gives
     c.enumerate-place-items.ensures.source c.enumerate-place-items.ensures.count few in
-    ((tt, tt, inl fit), tt, ap total c.none-counts.ensures, few, ap (λ (xs : List ℕ). string_bytes c.args.text.now ++ xs) text)
+    ((tt, tt, inl fit), tt, ap total none, few, ap (λ (xs : List ℕ). string_bytes c.args.text.now ++ xs) text)
 
 pub add-requires : goal.add-requires
 add-requires c =

@@ -5,7 +5,7 @@ use crate::proved;
 use crate::timing::best;
 use std::hint::black_box;
 
-const RUNS: usize = 40;
+const RUNS: usize = 200;
 
 // An answer in the form in which the proved judge's export gives it.
 fn told_by(answer: &Answer) -> u32 {

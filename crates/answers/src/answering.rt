@@ -32,7 +32,8 @@ pub fn judged_by<W: Listing>(file: &[u8], marks: &mut [u32]) -> Verdict
     verdict
 }
 
-// What the judge says of the lines whose entries these are.
+// What the judge says of the lines whose entries these are. That they fit one another and are few enough is asked here and of the listing alone:
+// `Listed` keeps it for all questions.
 fn of_entries<W: Listing>(entries: &[Entry], marks: &mut [u32]) -> Verdict
     requires { (Sound entries.now) × ((length entries.now ≤ 2048) × (length entries.now ≤ length marks.old)) }
     ensures { (ls : List Line) → Told ls entries.now → Judged ls result }

@@ -61,7 +61,7 @@ impl<W: Listing> Listed<'_, W> {
 
     // Whether the transaction with this owner is committed and in conflict with an earlier writer, where the transactions that it depends on are
     // marked in `forward`. Those that depend on it are searched for only where an earlier writer is not among them. The marks are lent each for itself,
-    // one to be read and one to be written.
+    // one to be read and one to be written, and what is known is put together here, where both are.
     pub(crate) fn conflicting(
         &self,
         dones: &[Option<u16>; PLACES],

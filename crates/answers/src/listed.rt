@@ -18,7 +18,7 @@ pub(crate) struct Listed<'a, W: Listing> {
     ghost cards: { Linked (W.count writs.now) (W.comes writs.now) writ_node entries.now (length entries.now) },
 }
 
-// The node of a WRIT's card, and one for all other entries.
+// The node of a WRIT's card, and one that nobody asks for, for all other entries: a place in the listing is the entry's place, so none is left out.
 pub(crate) fn card_node(entry: &Entry) -> usize
     ensures { result ≡ writ_node entry.now }
 {

@@ -43,7 +43,7 @@ pub fn is_crowded<S: Shelf>(shelf: &S, drafts: &[DraftEntry]) -> bool
     })
 }
 
-// Puts the drafts of a transaction, in rising card order.
+// Puts the drafts of a transaction, in rising card order. What it read and drafted is handed over and not asked of the table, which says no more of them.
 pub fn put_drafts<S: Shelf>(shelf: &mut S, writer: TxNo, reads: &[ReadEntry], drafts: &[DraftEntry])
     requires listed { apart (S.meaning shelf.old).cards (draft_cards (map drafting drafts.now)) ≡ true }
     requires spare { crowded (S.meaning shelf.old) (map drafting drafts.now) ≡ false }

@@ -27,7 +27,8 @@ fn done(number: TxNo) -> Line
     }
 }
 
-// The READs, the WRITs and a DONE of a commit.
+// The READs, the WRITs and a DONE of a commit. The number, the reads and the drafts are arguments of their own, since this crate does not know the table
+// that they are kept in.
 pub fn log_block<S: Shelf>(
     journal: &mut Journal,
     shelf: &S,

@@ -8,7 +8,7 @@ use super::RECORD_SIZE;
 #[derive(Drop)]
 pub struct RecordReader<'a> {
     bytes: &'a [u8],
-    // How many records were handed out.
+    // How many records were handed out: the caller may ask for the place, as an iterator over parts of a list could not tell it.
     place: usize,
 }
 

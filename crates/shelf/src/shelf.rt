@@ -11,7 +11,8 @@ use crate::refusal::PutRefusal;
 use stamps::{CardNo, Stamp, TxNo, Value, VersionNo};
 
 // A store of cards' versions. A card's versions are kept in a drawer, which has a number of free places and may be
-// shared with other cards. A question about a card or a version that the shelf lacks answers none.
+// shared with other cards. A question about a card or a version that the shelf lacks answers none. Card and version are two arguments: a value of both
+// would promise no more, since the shelf that is asked may lack it.
 pub trait Shelf {
     ghost meaning: { Self → Meaning };
 

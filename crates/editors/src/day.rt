@@ -3,6 +3,7 @@ use crate::parse::{BooksSize, Instruction, parse};
 use crate::show::Shown;
 use catalogue::BooksMemory;
 use records::RECORD_SIZE;
+use rules::LARGEST_FILE;
 use sessions::{Answer, Command, FileFault, history_file, run};
 use shelves::Shelf;
 use std::alloc::{AllocError, Global};
@@ -83,8 +84,8 @@ fn print_all(rt: &HostRuntime, lines: &[String], answers: &[Answer], cards: u32)
     Ok(())
 }
 
-// The most lines that a history file takes, which has 65,536 bytes at most: the judge refuses a longer one.
-const MOST_LINES: usize = 65_536 / RECORD_SIZE;
+// The most lines that a history file takes: the judge refuses a longer one.
+const MOST_LINES: usize = LARGEST_FILE / RECORD_SIZE;
 
 // Writes the journal as a history file, and says whether it was written.
 fn save(rt: &HostRuntime, file: &str, answer: Option<&Answer>) -> Result<bool, AllocError> {

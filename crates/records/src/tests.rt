@@ -1,5 +1,6 @@
 use super::{Kind, Line, RecordFault, RecordReader};
 use stamps::{CardNo, TxNo, Value};
+use std::process::Abort;
 use std::test::Fail;
 
 fn line(kind: Kind, transaction: u32, card: u32, writer: u32, first: u64, second: u64) -> Line {
@@ -24,70 +25,55 @@ fn bytes_of(line: &Line) -> [u8; 32] {
     bytes
 }
 
-// Every kind, both ends of every range, and every bad field: what is written is read back, what is refused writes nothing, and its bytes are
-// refused for the same field.
+// A good line is written and read back; a bad one is refused for its field both ways, and nothing is written.
+fn goes_both_ways(rt: &impl Abort, line: &Line, fault: Option<RecordFault>) {
+    let mut out = [7u8; 32];
+    let answer = line.encode(&mut out);
+    match fault {
+        None => {
+            assert_eq!(rt; answer, Ok(()));
+            assert_eq!(rt; out, bytes_of(line));
+            assert_eq!(rt; Line::decode(&out), Ok(*line));
+        }
+        Some(fault) => {
+            assert_eq!(rt; answer, Err(fault));
+            assert_eq!(rt; out, [7u8; 32]);
+            assert_eq!(rt; Line::decode(&bytes_of(line)), Err(fault));
+        }
+    }
+}
+
+// Every kind, both ends of every range, and every bad field.
 #[test]
 fn lines_are_written_and_read_back(rt: HostRuntime) {
+    let last = 1_000_000;
+    let most = u64::MAX;
+    let transaction = Some(RecordFault::Transaction);
+    let writer = Some(RecordFault::Writer);
+    let words = Some(RecordFault::Words);
     let cases = [
         (Kind::Read, 1, 0, 0, 0, 0, None),
-        (Kind::Read, 1_000_000, 255, 1_000_000, 0, 0, None),
+        (Kind::Read, last, 255, last, 0, 0, None),
         (Kind::Writ, 1, 0, 1, 0, 0, None),
-        (
-            Kind::Writ,
-            1_000_000,
-            255,
-            1_000_000,
-            u64::MAX,
-            u64::MAX,
-            None,
-        ),
+        (Kind::Writ, last, 255, last, most, most, None),
         (Kind::Done, 1, 0, 0, 0, 0, None),
-        (Kind::Gone, 1_000_000, 0, 0, 0, 0, None),
-        (Kind::Read, 0, 256, 0, 0, 0, Some(RecordFault::Transaction)),
-        (Kind::Writ, 0, 0, 0, 0, 0, Some(RecordFault::Transaction)),
-        (
-            Kind::Done,
-            1_000_001,
-            0,
-            0,
-            0,
-            0,
-            Some(RecordFault::Transaction),
-        ),
+        (Kind::Gone, last, 0, 0, 0, 0, None),
+        (Kind::Read, 0, 256, 0, 0, 0, transaction),
+        (Kind::Writ, 0, 0, 0, 0, 0, transaction),
+        (Kind::Done, 1_000_001, 0, 0, 0, 0, transaction),
         (Kind::Read, 1, 256, 1_000_001, 0, 0, Some(RecordFault::Card)),
         (Kind::Gone, 1, 1, 0, 0, 0, Some(RecordFault::Card)),
-        (
-            Kind::Read,
-            1,
-            255,
-            1_000_001,
-            1,
-            0,
-            Some(RecordFault::Writer),
-        ),
-        (Kind::Writ, 2, 255, 1, 1, 0, Some(RecordFault::Writer)),
-        (Kind::Done, 1, 0, 1, 1, 0, Some(RecordFault::Writer)),
-        (Kind::Read, 1, 0, 0, 1, 0, Some(RecordFault::Words)),
-        (Kind::Read, 1, 0, 0, 0, 1, Some(RecordFault::Words)),
-        (Kind::Done, 1, 0, 0, 1, 0, Some(RecordFault::Words)),
-        (Kind::Gone, 1, 0, 0, 0, 1, Some(RecordFault::Words)),
+        (Kind::Read, 1, 255, 1_000_001, 1, 0, writer),
+        (Kind::Writ, 2, 255, 1, 1, 0, writer),
+        (Kind::Done, 1, 0, 1, 1, 0, writer),
+        (Kind::Read, 1, 0, 0, 1, 0, words),
+        (Kind::Read, 1, 0, 0, 0, 1, words),
+        (Kind::Done, 1, 0, 0, 1, 0, words),
+        (Kind::Gone, 1, 0, 0, 0, 1, words),
     ];
     for (kind, transaction, card, writer, first, second, fault) in cases {
         let line = line(kind, transaction, card, writer, first, second);
-        let mut out = [7u8; 32];
-        let answer = line.encode(&mut out);
-        match fault {
-            None => {
-                assert_eq!(rt; answer, Ok(()));
-                assert_eq!(rt; out, bytes_of(&line));
-                assert_eq!(rt; Line::decode(&out), Ok(line));
-            }
-            Some(fault) => {
-                assert_eq!(rt; answer, Err(fault));
-                assert_eq!(rt; out, [7u8; 32]);
-                assert_eq!(rt; Line::decode(&bytes_of(&line)), Err(fault));
-            }
-        }
+        goes_both_ways(&rt, &line, fault);
     }
 }
 

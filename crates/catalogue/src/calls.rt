@@ -4,7 +4,7 @@ ghost use Rattle.shelf.specs.Meaning.{Meaning};
 ghost use Rattle.transactions.specs.State.{last_at};
 ghost use Rattle.transactions.specs.Calls.{set_up_answer, after_set_up, open_answer, Opens, read_answer, after_read, draft_answer, after_draft, abandon_answer, after_end, after_close};
 ghost use Rattle.transactions.specs.Committing.{commit_answer, commit_shelf, commit_books};
-ghost use Rattle.transactions.specs.Promises.{SetUpPromise, OpenPromise, ReadPromise, DraftPromise, CommitPromise, AbandonPromise, ClosePromise};
+ghost use Rattle.transactions.specs.Promises.{SetUpPromise, OpenPromise, ReadPromise, ReadRefusal, DraftPromise, CommitPromise, CommitRefusal, AbandonPromise, ClosePromise};
 ghost use Rattle.books.specs.States.{sizes_of, new_state, handed, number_given};
 ghost use Rattle.catalogue.specs.Kept.{kept, decision};
 
@@ -34,7 +34,7 @@ impl Catalogue {
     pub fn set_up<S: Shelf>(&mut self, shelf: &S) -> Result<(), Refusal>
         ensures answer { result ≡ set_up_answer (kept self.old) (S.meaning shelf.now) }
         ensures books { kept self.new ≡ after_set_up (kept self.old) (S.meaning shelf.now) }
-        ensures law { SetUpPromise (S.meaning shelf.now) result (kept self.new) }
+        ensures law { SetUpPromise (S.meaning shelf.now) (kept self.old) result (kept self.new) }
     {
         self.books.set_up(shelf)
     }
@@ -58,6 +58,7 @@ impl Catalogue {
         ensures answer { result ≡ read_answer (kept self.old) (S.meaning shelf.now) slip.now.number.0 card.0 }
         ensures books { kept self.new ≡ after_read (kept self.old) (S.meaning shelf.now) slip.now.number.0 card.0 }
         ensures law { ReadPromise (S.meaning shelf.now) (kept self.old) slip.now.number.0 card.0 result (kept self.new) }
+        ensures refusal { ReadRefusal (kept self.old) result (kept self.new) }
     {
         self.books.read(shelf, slip, card)
     }
@@ -77,6 +78,7 @@ impl Catalogue {
         ensures shelf { S.meaning shelf.new ≡ commit_shelf (kept self.old) (S.meaning shelf.old) slip.number.0 }
         ensures books { kept self.new ≡ commit_books (kept self.old) (S.meaning shelf.old) slip.number.0 }
         ensures law { CommitPromise (S.meaning shelf.old) (kept self.old) slip.number.0 (decision result) (S.meaning shelf.new) (kept self.new) }
+        ensures refusal { CommitRefusal (kept self.old) slip.number.0 (decision result) (kept self.new) }
     {
         self.books.commit(shelf, slip)
     }

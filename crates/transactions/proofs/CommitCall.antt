@@ -70,6 +70,16 @@ module _ (a : Account) (m : Meaning) (b : State) (w : Watched a m b) (t : ℕ) w
   pub commit_decided : a.opened t ≡ true → Decided a m t (commit_answer b m t)
   commit_decided o = subst (Decided a m t) (sym (by_told o)) (decided_of (a.drafts t) refl)
 
+  -- a granted commit has places for its drafts
+  pub granted_room : a.opened t ≡ true → commit_answer b m t ≡ Ok tt → crowded m (a.drafts t) ≡ false
+  granted_room o e = go (commit_answer b m t) (commit_decided o) e
+    where
+      go : (r : Result (Unit {0}) Refusal) → Decided a m t r → r ≡ Ok tt → crowded m (a.drafts t) ≡ false
+      go _ (conflicts p) q = absurd (ok_not_err (sym q))
+      go _ (lacks_place p) q = absurd (ok_not_err (sym q))
+      go _ (lacks_lines p) q = absurd (ok_not_err (sym q))
+      go _ (grants p c) q = c
+
   pub commit_law : CommitLaw a t (commit_answer b m t)
   commit_law = record {
     conflict = λ o e. conflict o (commit_answer b m t) (commit_decided o) e;

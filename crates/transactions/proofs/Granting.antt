@@ -89,6 +89,13 @@ module _ (a : Account) (m : Meaning) (s : Shelved a m) (l : Lawful a (stamps_of 
       holds x k lx le (inl q) (inr d) = absurd (omega (arith, newest_other a t x d))
 
   -- the new count stops nowhere: the read stamps reach no further than the newest version, and there is room for one more
+  pub count_room : Sound m → crowded m (a.drafts t) ≡ false → (y : ℕ) → drafted (a.drafts t) y ≡ true
+      → suc (greatest (stamps_of m) (a.reads t) y) ≤ most
+  count_room so e y d =
+      let ly : y < a.listed = drafted_listed a m s l t y d in
+      let lm : y < m.cards = omega (arith, s.cards) in
+      omega (arith, greatest_bound a (stamps_of m) l t y ly, so.roomy y lm, s.versions y ly, drafted_room m so (a.drafts t) y lm e d)
+
   count_free : Sound m → crowded m (a.drafts t) ≡ false → (y : ℕ)
       → new_count m (a.reads t) (a.drafts t) y ≡ new_entry a (stamps_of m) t y
   count_free so e y = go (cases_Bool (drafted (a.drafts t) y))
@@ -96,10 +103,8 @@ module _ (a : Account) (m : Meaning) (s : Shelved a m) (l : Lawful a (stamps_of 
       go : (drafted (a.drafts t) y ≡ true) ⊎ (drafted (a.drafts t) y ≡ false)
           → new_count m (a.reads t) (a.drafts t) y ≡ new_entry a (stamps_of m) t y
       go (inl d) =
-          let ly : y < a.listed = drafted_listed a m s l t y d in
-          let lm : y < m.cards = omega (arith, s.cards) in
           let n : min (suc (greatest (stamps_of m) (a.reads t) y)) most ≡ suc (greatest (stamps_of m) (a.reads t) y)
-          = omega (arith, greatest_bound a (stamps_of m) l t y ly, so.roomy y lm, s.versions y ly, drafted_room m so (a.drafts t) y lm e d) in
+          = omega (arith, count_room so e y d) in
           ap (λ k. cond (drafted (a.drafts t) y) k (greatest (stamps_of m) (a.reads t) y)) n
       go (inr d) =
           cond-false (drafted (a.drafts t) y) (min (suc (greatest (stamps_of m) (a.reads t) y)) most) (greatest (stamps_of m) (a.reads t) y) d

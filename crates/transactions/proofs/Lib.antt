@@ -15,6 +15,7 @@ pub mod Extending
 pub mod Granting
 pub mod CommitCall
 pub mod CommitKept
+pub mod Elsewhere
 pub mod Theorems
 pub mod Runs
 pub mod Pinned

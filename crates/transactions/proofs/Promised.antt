@@ -1,5 +1,5 @@
 -- Each promise, for a call that answers and leaves what is defined: the equations are those of the calls' own contracts.
-use Rattle.std.proofs.Common.{◌≡◌, ℕ, Result, sym, ◌∙◌, subst}
+use Rattle.std.proofs.Common.{◌≡◌, ℕ, Err, Result, sym, ◌∙◌, subst}
 use Rattle.stamps.specs.declared.value.Value.{Value}
 use Rattle.shelf.specs.Meaning.{Meaning}
 use Rattle.shelf.specs.Sound.{Sound}
@@ -13,8 +13,8 @@ use Rattle.transactions.specs.Committing.{commit_answer, commit_shelf, commit_bo
 use Rattle.transactions.specs.Kept.{open_account, read_account, draft_account, commit_account, end_account}
 use Rattle.transactions.specs.Law.{OpenLaw, ReadLaw, DraftLaw, CommitLaw, EndLaw}
 use Rattle.transactions.specs.Watched.{Watched}
-use Rattle.transactions.specs.Promises.{Upheld, SetUpPromise, OpenPromise, ReadPromise, DraftPromise, CommitPromise, AbandonPromise, ClosePromise}
-use Rattle.transactions.proofs.Theorems.{set_up_begins, open_keeps, read_keeps, draft_keeps, commit_keeps, abandon_keeps, close_keeps, shelf_is_told, stamps_are_vectors, account_is_isolated, journal_is_history}
+use Rattle.transactions.specs.Promises.{Upheld, SetUpPromise, ReadRefusal, CommitRefusal, OpenPromise, ReadPromise, DraftPromise, CommitPromise, AbandonPromise, ClosePromise}
+use Rattle.transactions.proofs.Theorems.{set_up_begins, refused_set_up_keeps, read_elsewhere_keeps, commit_elsewhere_keeps, open_keeps, read_keeps, draft_keeps, commit_keeps, abandon_keeps, close_keeps, shelf_is_told, stamps_are_vectors, account_is_isolated, journal_is_history}
 
 pub upheld : (a : Account) (m : Meaning) (b : State) → Watched a m b → Upheld a m b
 upheld a m b w =
@@ -29,9 +29,24 @@ upheld a m b w =
     }
 
 pub set_up_promised : (m : Meaning) (b c : State) (r : Result (Unit {0}) Refusal) → Sound m → r ≡ set_up_answer b m → c ≡ after_set_up b m
-    → SetUpPromise m r c
-set_up_promised m b c r s e f g =
-    upheld (fresh m.cards) m c (subst (Watched (fresh m.cards) m) (sym f) (set_up_begins m b s (sym e ∙ g)))
+    → SetUpPromise m b r c
+set_up_promised m b c r s e f = record {
+  granted = λ g. upheld (fresh m.cards) m c (subst (Watched (fresh m.cards) m) (sym f) (set_up_begins m b s (sym e ∙ g)));
+  refused = λ g q a n w. upheld a n c (subst (Watched a n) (sym f) (refused_set_up_keeps a n m b g w (sym e ∙ q)));
+}
+
+pub read_refusal : (m : Meaning) (b c : State) (t x : ℕ) (r : Result Answer Refusal) → r ≡ read_answer b m t x → c ≡ after_read b m t x
+    → ReadRefusal b r c
+read_refusal m b c t x r e f g q a n w =
+    let (l, v) = read_elsewhere_keeps a n m b t x g w (sym e ∙ q) in
+    upheld a n c (subst (Watched a n) (sym f) v)
+
+pub commit_refusal : (m : Meaning) (b c : State) (t : ℕ) (r : Result (Unit {0}) Refusal) → r ≡ commit_answer b m t → c ≡ commit_books b m t
+    → CommitRefusal b t r c
+commit_refusal m b c t r e f g q a n w =
+    let (l, v) = commit_elsewhere_keeps a n m b t g w (sym e ∙ q) in
+    upheld (commit_account a t r) n c
+        (subst (λ z. Watched (commit_account a t z) n c) (sym q) (subst (Watched (commit_account a t (Err g)) n) (sym f) v))
 
 pub open_promised : (m : Meaning) (b c : State) (r : Result ℕ Refusal) → r ≡ open_answer b → Opens b (open_answer b) c → OpenPromise m b r c
 open_promised m b c r e o a w =

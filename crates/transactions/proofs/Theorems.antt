@@ -1,10 +1,11 @@
 -- The theorems of specs/Theorems, from the lemmas.
-use Rattle.std.proofs.Common.{arith}
-use Rattle.transactions.specs.Theorems.{SetUpBegins, OpenKeeps, ReadKeeps, DraftKeeps, CommitKeeps, AbandonKeeps, CloseKeeps, ShelfIsTold, StampsAreVectors, JournalIsHistory, JournalIsTaken, LawPinsAnswers, RunsArePlain, AccountIsIsolated, RunsAreLawful}
+use Rattle.std.proofs.Common.{sym, subst, arith}
+use Rattle.transactions.specs.Theorems.{SetUpBegins, OpenKeeps, ReadKeeps, DraftKeeps, CommitKeeps, AbandonKeeps, CloseKeeps, ShelfIsTold, StampsAreVectors, JournalIsHistory, JournalIsTaken, LawPinsAnswers, RunsArePlain, AccountIsIsolated, RunsAreLawful, SetUpRefusedKeeps, ReadElsewhereKeeps, CommitElsewhereKeeps, ConflictAloneEnds, CapIsNeverMet}
 use Rattle.isolation.proofs.Theorems.{lawful_is_isolated}
 use Rattle.isolation.specs.Account.{fresh}
 use Rattle.transactions.specs.Calls.{after_set_up}
 use Rattle.transactions.specs.Choosing.{stamps_of}
+use Rattle.transactions.specs.Watched.{Watched}
 use Rattle.transactions.proofs.Seen.{watched_stamped}
 use Rattle.transactions.proofs.SettingUp.{set_up_watched}
 use Rattle.transactions.proofs.Opening.{open_law, open_watched}
@@ -19,11 +20,29 @@ use Rattle.transactions.proofs.Clean.{journal_clean}
 use Rattle.transactions.proofs.Pinned.{reads_pinned, drafts_pinned, ends_pinned}
 use Rattle.transactions.proofs.Plainly.{same_version, numbered}
 use Rattle.transactions.proofs.OwnWords.{own_words}
-use Rattle.transactions.proofs.Runs.{carried_lawful}
+use Rattle.transactions.proofs.Runs.{carried_lawful, run_since}
+use Rattle.transactions.proofs.Elsewhere.{conflict_ends, refused_set_up, read_elsewhere_law, read_elsewhere_watched, commit_elsewhere_law, commit_elsewhere_watched}
+use Rattle.transactions.proofs.Granting.{count_room}
+use Rattle.transactions.proofs.CommitCall.{granted_room}
 use Rattle.transactions.proofs.Ending.{abandon_law, abandon_watched, close_watched}
 
 pub set_up_begins : SetUpBegins
 set_up_begins m b s e = set_up_watched m s b e
+
+pub refused_set_up_keeps : SetUpRefusedKeeps
+refused_set_up_keeps a m n b f w e = subst (Watched a m) (sym (refused_set_up n b f e)) w
+
+pub read_elsewhere_keeps : ReadElsewhereKeeps
+read_elsewhere_keeps a m n b t x f w e = (read_elsewhere_law a m n b w t x f e, read_elsewhere_watched a m n b w t x f e)
+
+pub commit_elsewhere_keeps : CommitElsewhereKeeps
+commit_elsewhere_keeps a m n b t f w e = (commit_elsewhere_law a m n b w t f e, commit_elsewhere_watched a m n b w t f e)
+
+pub conflict_alone_ends : ConflictAloneEnds
+conflict_alone_ends f = conflict_ends f
+
+pub cap_is_never_met : CapIsNeverMet
+cap_is_never_met a m b t y s w o e d = count_room a m w.shelved w.lawful t s (granted_room a m b w t o e) y d
 
 pub open_keeps : OpenKeeps
 open_keeps a m b c w o = (open_law a m b w, open_watched a m b w c o)
@@ -57,7 +76,7 @@ pub account_is_isolated : AccountIsIsolated
 account_is_isolated a m b w = lawful_is_isolated a (stamps_of m) w.lawful
 
 pub runs_are_lawful : RunsAreLawful
-runs_are_lawful m n b c es s e r =
+runs_are_lawful m n b c ss s e r =
     let (l, w, q) = carried_lawful (fresh m.cards) m (after_set_up b m) (set_up_begins m b s e) s r in
     (l, w)
 
@@ -68,8 +87,11 @@ pub law_pins_answers : LawPinsAnswers
 law_pins_answers = record { of_reads = reads_pinned; of_drafts = drafts_pinned; of_ends = ends_pinned }
 
 pub runs_are_plain : RunsArePlain
-runs_are_plain n es l = record {
-  again = λ i j t x p q e f. same_version (fresh n) es i j t x p q l e f;
-  own_words = λ i j t x v q e f lt none. own_words (fresh n) es i j t x v q l e f lt none;
-  numbered = λ i k e. omega (arith, numbered (fresh n) es i k l e);
+runs_are_plain = record {
+  plain = λ n ss h l. record {
+    again = λ i j t x p q e f. same_version (fresh n) ss i j t x p q h l e f;
+    own_words = λ i j t x v q e f lt none. own_words (fresh n) ss i j t x v q h l e f lt none;
+    numbered = λ i k e. omega (arith, numbered (fresh n) ss i k h l e);
+  };
+  since = λ a n rs ss l. run_since a n rs ss l;
 }

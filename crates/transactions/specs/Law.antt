@@ -8,6 +8,8 @@
 --     DraftLaw a t x r            r is a lawful answer to a draft for card x by t
 --     CommitLaw a t r             r is a lawful answer to the commit of t
 --     OpenLaw a r, EndLaw a t r   r is a lawful answer to an open; to an abandon of t
+--     ReadElsewhereLaw a t x f, CommitElsewhereLaw a t f
+--                                 f is a lawful refusal of a read of card x by t, of the commit of t, with a shelf of another set-up
 -- A transaction is t, a card x; `a.opened t` says that t is open, and cards below `a.listed` are listed.
 use Rattle.std.specs.Prelude.{◌≡◌, ℕ, suc, ◌<◌, ◌≤◌, true, false, ◌⊎◌, [], length, Ok, Err, Result}
 use Rattle.isolation.specs.History.{Consistent, Clash}
@@ -71,3 +73,15 @@ pub record OpenLaw (a : Account) (r : Result ℕ Refusal) : Type 0 where
 pub record EndLaw (a : Account) (t : ℕ) (r : Result (Unit {0}) Refusal) : Type 0 where
   pub granted : a.opened t ≡ true → r ≡ Ok tt
   pub shut : a.opened t ≡ false → r ≡ Err refusals.NotOpen
+
+-- With a shelf of another set-up, what is refused is refused for that shelf, where the transaction is open and the card is listed.
+pub record ReadElsewhereLaw (a : Account) (t x : ℕ) (f : Refusal) : Type 0 where
+  pub other : a.opened t ≡ true → x < a.listed → f ≡ refusals.OtherShelf
+  pub unlisted : a.opened t ≡ true → a.listed ≤ x → f ≡ refusals.NoCard
+  pub shut : a.opened t ≡ false → f ≡ refusals.NotOpen
+
+pub record CommitElsewhereLaw (a : Account) (t : ℕ) (f : Refusal) : Type 0 where
+  pub plain : a.opened t ≡ true → a.drafts t ≡ [] → ⊥
+  pub other : a.opened t ≡ true
+      → (f ≡ refusals.OtherShelf) ⊎ ((f ≡ refusals.Conflict) ⊎ ((f ≡ refusals.NoPlace) ⊎ (f ≡ refusals.JournalFull)))
+  pub shut : a.opened t ≡ false → f ≡ refusals.NotOpen

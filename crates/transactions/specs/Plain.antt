@@ -1,7 +1,9 @@
 -- What a lawful run shows of itself, in the words of the calls and their answers alone. Assumes nothing.
---     opens_in es                 how many of the opens among es were granted
---     PlainLaw es                of the calls es, counted from 0: two reads of a card by one transaction answer one version; a read answers the
---                                 transaction's own draft, where no other for that card came after it; granted opens are numbered from 1
+--     opens_in ss                 how many of the opens among ss were granted
+--     NoSetUp ss                  no set-up among ss was granted
+--     PlainLaw ss                 of the steps ss, counted from 0: two reads of a card by one transaction answer one version; a read
+--                                 answers the transaction's own draft, where no other for that card came after it; granted opens are
+--                                 numbered from 1
 use Rattle.std.specs.Prelude.{◌≡◌, ℕ, suc, ◌+◌, ◌<◌, List, [], ◌∷◌, take, Some, Ok, Err, ◌≢◌}
 use Rattle.std.specs.List.{slice_get}
 use Rattle.stamps.specs.declared.numbers.CardNo.{CardNo}
@@ -10,6 +12,8 @@ use Rattle.stamps.specs.declared.value.Value.{Value}
 use Rattle.transactions.specs.declared.reading.Reading.{Reading as Answer}
 use Rattle.transactions.specs.declared.event.Event.{Event}
 use Rattle.transactions.specs.declared.event.Event.TheVariants as events
+use Rattle.transactions.specs.Run.{Step}
+use Rattle.transactions.specs.Run.Step.{OnShelf, SetUp, ReadElsewhere, CommitElsewhere}
 
 -- 1 for a granted open
 abbrev pub opened_by : Event → ℕ
@@ -21,14 +25,24 @@ opened_by (events.Commit t r) = 0
 opened_by (events.Abandon t r) = 0
 opened_by events.Close = 0
 
-abbrev pub opens_in : List Event → ℕ
-opens_in [] = 0
-opens_in (e ∷ es) = opened_by e + opens_in es
+abbrev pub opened_in : Step → ℕ
+opened_in (OnShelf e) = opened_by e
+opened_in (SetUp n r) = 0
+opened_in (ReadElsewhere t x f) = 0
+opened_in (CommitElsewhere t f) = 0
 
-pub record PlainLaw (es : List Event) : Type 0 where
-  pub again : (i j : ℕ) (t : TxNo) (x : CardNo) (p q : Answer) → slice_get es i ≡ Some (events.Read t x (Ok p))
-      → slice_get es j ≡ Some (events.Read t x (Ok q)) → p.version.0 ≡ q.version.0
-  pub own_words : (i j : ℕ) (t : TxNo) (x : CardNo) (v : Value) (q : Answer) → slice_get es i ≡ Some (events.Draft t x v (Ok tt))
-      → slice_get es j ≡ Some (events.Read t x (Ok q)) → i < j
-      → ((k : ℕ) (u : Value) → i < k → k < j → slice_get es k ≢ Some (events.Draft t x u (Ok tt))) → q.value ≡ v
-  pub numbered : (i : ℕ) (n : TxNo) → slice_get es i ≡ Some (events.Open (Ok n)) → n.0 ≡ suc (opens_in (take i es))
+abbrev pub opens_in : List Step → ℕ
+opens_in [] = 0
+opens_in (s ∷ ss) = opened_in s + opens_in ss
+
+abbrev pub NoSetUp : List Step → Type 0
+NoSetUp ss = (i n : ℕ) → slice_get ss i ≢ Some (SetUp n (Ok tt))
+
+pub record PlainLaw (ss : List Step) : Type 0 where
+  pub again : (i j : ℕ) (t : TxNo) (x : CardNo) (p q : Answer) → slice_get ss i ≡ Some (OnShelf (events.Read t x (Ok p)))
+      → slice_get ss j ≡ Some (OnShelf (events.Read t x (Ok q))) → p.version.0 ≡ q.version.0
+  pub own_words : (i j : ℕ) (t : TxNo) (x : CardNo) (v : Value) (q : Answer)
+      → slice_get ss i ≡ Some (OnShelf (events.Draft t x v (Ok tt)))
+      → slice_get ss j ≡ Some (OnShelf (events.Read t x (Ok q))) → i < j
+      → ((k : ℕ) (u : Value) → i < k → k < j → slice_get ss k ≢ Some (OnShelf (events.Draft t x u (Ok tt)))) → q.value ≡ v
+  pub numbered : (i : ℕ) (n : TxNo) → slice_get ss i ≡ Some (OnShelf (events.Open (Ok n))) → n.0 ≡ suc (opens_in (take i ss))

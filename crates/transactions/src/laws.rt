@@ -3,10 +3,38 @@ ghost use Rattle.transactions.specs.Theorems.{SetUpBegins, OpenKeeps, ReadKeeps,
 ghost use Rattle.transactions.specs.Theorems.{CommitKeeps, AbandonKeeps, CloseKeeps, StampsAreVectors, JournalIsHistory};
 ghost use Rattle.transactions.specs.Theorems.{LawPinsAnswers, ShelfIsTold, JournalIsTaken, AccountIsIsolated};
 ghost use Rattle.transactions.specs.Theorems.{RunsAreLawful, RunsArePlain};
+ghost use Rattle.transactions.specs.Theorems.{SetUpRefusedKeeps, ReadElsewhereKeeps, CommitElsewhereKeeps};
+ghost use Rattle.transactions.specs.Theorems.{ConflictAloneEnds, CapIsNeverMet};
 
 // A granted set-up begins an account, with the shelf's cards and nothing in it.
 pub fn set_up_begins()
     ensures { SetUpBegins }
+{}
+
+/// A refused set-up, with any shelf, leaves what is watched.
+pub fn refused_set_up_keeps()
+    ensures { SetUpRefusedKeeps }
+{}
+
+/// A read that is refused with a shelf of another set-up leaves what is watched with its own.
+pub fn read_elsewhere_keeps()
+    ensures { ReadElsewhereKeeps }
+{}
+
+/// A commit that is refused with a shelf of another set-up leaves what is watched with its own, but that a conflict ends the
+/// transaction.
+pub fn commit_elsewhere_keeps()
+    ensures { CommitElsewhereKeeps }
+{}
+
+/// Of all refusals of a commit a conflict alone ends the transaction.
+pub fn conflict_alone_ends()
+    ensures { ConflictAloneEnds }
+{}
+
+/// The counts of a granted commit's stamp are at most 65,535, where no count is made to stop.
+pub fn cap_is_never_met()
+    ensures { CapIsNeverMet }
 {}
 
 // An open gives the next number, and the account goes on.
@@ -70,13 +98,14 @@ pub fn account_is_isolated()
     ensures { AccountIsIsolated }
 {}
 
-// From a granted set-up on, any calls in any order make a lawful run, over the account folded from the calls and their answers alone.
+// From a granted set-up on, any calls in any order, set-ups and calls with other shelves among them, make a lawful run, over the account
+// folded from the calls and their answers alone.
 pub fn runs_are_lawful()
     ensures { RunsAreLawful }
 {}
 
 // In a lawful run two reads of a card by one transaction answer one version, a read answers the transaction's own last draft, and
-// granted opens are numbered from 1.
+// granted opens are numbered from 1, each since the last granted set-up.
 pub fn runs_are_plain()
     ensures { RunsArePlain }
 {}

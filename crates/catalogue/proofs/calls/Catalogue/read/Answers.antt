@@ -1,5 +1,5 @@
 use Rattle.books.specs.States.{state_of}
-use Rattle.transactions.proofs.Promised.{read_promised}
+use Rattle.transactions.proofs.Promised.{read_promised, read_refusal}
 use Rattle.catalogue.proofs.calls.Catalogue.read.Goals as goal
 
 pub returns : goal.returns
@@ -9,5 +9,7 @@ returns g c =
       answer = c.read.ensures.answer;
       books = c.read.ensures.books;
       law = read_promised m (state_of c.args.self.now.books) (state_of c.read.new.self) c.args.slip.now.number.0 c.args.card.0 c.read.result
+          c.read.ensures.answer c.read.ensures.books;
+      refusal = read_refusal m (state_of c.args.self.now.books) (state_of c.read.new.self) c.args.slip.now.number.0 c.args.card.0 c.read.result
           c.read.ensures.answer c.read.ensures.books;
     }

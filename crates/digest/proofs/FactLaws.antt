@@ -1,30 +1,18 @@
 -- What the entries of good lines say of the lines.
-use Rattle.std.proofs.Common.{◌≡◌, ℕ, zero, suc, ◌<◌, Bool, true, false, cond, not, ◌&&◌, eqb, ◌⊎◌, List, [], ◌∷◌, ◌++◌, length, Some, None, Option, sym, refl, ap, ◌∙◌, subst, inl, inr, arith}
+use Rattle.std.proofs.Common.{◌≡◌, ℕ, suc, ◌<◌, Bool, true, false, cond, not, ◌&&◌, eqb, ◌⊎◌, List, [], ◌∷◌, ◌++◌, length, Some, None, Option, sym, refl, ap, ◌∙◌, subst, inl, inr, arith}
 use Rattle.std.specs.List.{slice_get}
 use Rattle.std.proofs.lemmas.Bool.Decides.{eqb_tells}
-use Rattle.std.proofs.lemmas.Bool.{and_parts, or_cases, eqb-true, not-true, both_ways, or_left, or_right}
+use Rattle.std.proofs.lemmas.Bool.{and_parts, or_cases, eqb-true, not-true, both_ways}
 use Rattle.records.specs.declared.kind.Kind.{Kind}
 use Rattle.records.specs.declared.kind.Kind.TheVariants.{Read, Writ, Done, Gone}
 use Rattle.records.specs.declared.line.Line.{Line}
 use Rattle.digest.specs.declared.entry.Entry.{Entry}
 use Rattle.rules.specs.Rules.{is_writ, some, told, ends, in_place, kind_in_place}
+use Rattle.rules.proofs.PlaceLaws.{some_finds, some_holds}
 use Rattle.digest.specs.Entries.{at, wrote, version_in, version_of, entry_of, Sound}
 use Rattle.digest.specs.Told.{Told}
 use Rattle.digest.proofs.Snoc.{length_snoc, nth_inside, nth_below, nth_snoc}
 use Rattle.digest.proofs.EntryLaws.{owner_found, version_found, at_old, at_new, old_or_new, sound_none, sound_more}
-
--- some line passes a test exactly where a line at some place does
-pub some_finds : (p : Line → Bool) (ls : List Line) → some p ls ≡ true → (j : ℕ) × (m : Line) × (slice_get ls j ≡ Some m) × (p m ≡ true)
-some_finds p [] h = let z : ◌≡◌ {A = ℕ} 0 1 = cc in absurd (omega arith)
-some_finds p (l ∷ ls) h = elim (or_cases (p l) (some p ls) h) [
-  | inl here ↦ (0, l, refl, here)
-  | inr there ↦ let (j, m, at', e) = some_finds p ls there in (suc j, m, at', e)
-]
-
-pub some_holds : (p : Line → Bool) (ls : List Line) (j : ℕ) (m : Line) → slice_get ls j ≡ Some m → p m ≡ true → some p ls ≡ true
-some_holds p [] j m at' e = let z : ◌≡◌ {A = ℕ} 0 1 = cc in absurd (omega arith)
-some_holds p (l ∷ ls) zero m at' e = let same : l ≡ m = cc in or_left (p l) (some p ls) (ap p same ∙ e)
-some_holds p (l ∷ ls) (suc j) m at' e = or_right (p l) (some p ls) (some_holds p ls j m at' e)
 
 -- an entry has its line's kind, transaction and card
 pub record Same (e : Entry) (l : Line) : Type 0 where

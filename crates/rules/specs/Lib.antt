@@ -1,1 +1,4 @@
 pub mod Rules
+pub mod Fields
+pub mod Lines
+pub mod FileLaw

@@ -1,7 +1,7 @@
 -- The tests of a file's records, in their order, and of its ends. Assumes nothing.
 use Rattle.std.proofs.Common.{◌≡◌, ℕ, zero, suc, ◌+◌, ◌-◌, ◌<◌, ◌≤◌, Bool, true, false, cond, List, [], ◌∷◌, ◌++◌, length, is_ok, Some, None, Option, MatchOption, Ok, Err, Result, sym, refl, ap, ◌∙◌, subst, ⊎_elim, arith, length-append}
 use Rattle.std.specs.List.{slice_get}
-use Rattle.std.specs.Result.{result_ok}
+use Rattle.std.specs.Result.{result_ok, result_err}
 use Rattle.std.specs.Option.{option_to_list}
 use Rattle.std.proofs.str.Laws.{order}
 use Rattle.records.specs.declared.line.Line.{Line}
@@ -10,7 +10,11 @@ use Rattle.records.specs.Format.{decoded}
 use Rattle.records.specs.Parts.{part}
 use Rattle.rules.specs.declared.judge_fault.JudgeFault.{JudgeFault}
 use Rattle.rules.specs.declared.judge_fault.JudgeFault.TheVariants.{OutOfPlace}
-use Rattle.rules.specs.Rules.{some, ends, in_place, after_record, next_record, scanned, unended}
+use Rattle.rules.specs.Rules.{some, ends, in_place, after_record, next_record, scanned, unended, accepted}
+use Rattle.rules.proofs.Snoc.{nth_below, nth_front, nth_last}
+use Rattle.rules.specs.FileLaw.{FileLaw}
+use Rattle.rules.proofs.ScanLaws.{stays}
+use Rattle.rules.proofs.FileLaws.{file_law}
 use Rattle.scan.specs.Scanning.{Readable, lines_of, Scanned, answered}
 use Rattle.scan.proofs.Scans.{read_as_line}
 
@@ -41,17 +45,10 @@ module _ (bs : List ℕ) where
       taken_in (Ok l) e = in_or_out l (in_place (lines_of bs n) l) e
       taken_in (Err f) e = let z : ◌≡◌ {A = ℕ} 0 1 = cc in absurd (omega arith)
 
-  -- a fault stays
-  stays : (n m : ℕ) (f : JudgeFault) → scanned bs n ≡ Err f → scanned bs (m + n) ≡ Err f
-  stays n zero f e = let q : n ≡ zero + n = omega arith in subst (λ k. scanned bs k ≡ Err f) q e
-  stays n (suc m) f e =
-      let q : suc (m + n) ≡ suc m + n = omega arith in
-      subst (λ k. scanned bs k ≡ Err f) q (ap (next_record bs (m + n)) (stays n m f e))
-
   stopped : (n count : ℕ) (f : JudgeFault) → n < count → scanned bs (suc n) ≡ Err f → answered (scanned bs count) ≡ Err f
   stopped n count f lt e =
       let q : (count - suc n) + suc n ≡ count = omega arith in
-      ap answered (subst (λ k. scanned bs k ≡ Err f) q (stays (suc n) (count - suc n) f e))
+      ap answered (subst (λ k. scanned bs k ≡ Err f) q (stays bs (suc n) (count - suc n) f e))
 
   was_error : (r : Result (List Line) JudgeFault) (f : JudgeFault) → answered r ≡ Err f → r ≡ Err f
   was_error (Ok ls) f e = let z : ◌≡◌ {A = ℕ} 0 1 = cc in absurd (omega arith)
@@ -61,15 +58,6 @@ module _ (bs : List ℕ) where
   pub refused_at : (n count : ℕ) (f : JudgeFault) → n < count → Scanned bs n → answered (after_record n (lines_of bs n) (decoded (part bs n))) ≡ Err f
       → answered (scanned bs count) ≡ Err f
   refused_at n count f lt h e = stopped n count f lt (next_is n h ∙ was_error (after_record n (lines_of bs n) (decoded (part bs n))) f e)
-
-nth_left : (xs ys : List Line) (i : ℕ) (l : Line) → slice_get xs i ≡ Some l → slice_get (xs ++ ys) i ≡ Some l
-nth_left [] ys i l e = let z : ◌≡◌ {A = ℕ} 0 1 = cc in absurd (omega arith)
-nth_left (x ∷ xs) ys zero l e = e
-nth_left (x ∷ xs) ys (suc i) l e = nth_left xs ys i l e
-
-nth_last : (xs : List Line) (l : Line) → slice_get (xs ++ l ∷ []) (length xs) ≡ Some l
-nth_last [] l = refl
-nth_last (x ∷ xs) l = nth_last xs l
 
 pub length_lines : (bs : List ℕ) (n : ℕ) → Readable bs n → length (lines_of bs n) ≡ n
 length_lines bs zero h = refl
@@ -84,7 +72,9 @@ nth_lines bs zero i l h lt e = absurd (omega arith)
 nth_lines bs (suc n) i l h lt e =
     let before : Readable bs n = λ k below. h k (omega arith) in
     ⊎_elim
-    (λ (below : i < n). nth_left (lines_of bs n) (option_to_list (result_ok (decoded (part bs n)))) i l (nth_lines bs n i l before below e))
+    (λ (below : i < n).
+    let old = nth_lines bs n i l before below e in
+    nth_front (lines_of bs n) (option_to_list (result_ok (decoded (part bs n)))) i (nth_below (lines_of bs n) i l old) ∙ old)
     (λ (ge : n ≤ i).
     let same : n ≡ i = omega arith in
     let here : decoded (part bs n) ≡ Ok l = subst (λ k. decoded (part bs k) ≡ Ok l) (sym same) e in
@@ -139,3 +129,11 @@ first_open bs n (Some i) good (le, lt, here, before) =
     let at : i ≡ 0 + i = omega arith in
     ap (λ k. Some k) at
     ∙ sym (unended_at (lines_of bs n) (lines_of bs n) i 0 l (ended_below bs n i good (omega arith) before) (nth_lines bs n i l good lt is) (here l is))
+
+-- the law of a file, of any answer that the tests give
+same_fault : (r : Result (List Line) JudgeFault) → result_err (answered r) ≡ result_err r
+same_fault (Ok ls) = refl
+same_fault (Err f) = refl
+
+pub accepted_law : (bs : List ℕ) (marks : ℕ) (r : Result (Unit {0}) JudgeFault) → r ≡ answered (accepted bs marks) → FileLaw bs marks (result_err r)
+accepted_law bs marks r e = subst (FileLaw bs marks) (sym (ap result_err e ∙ same_fault (accepted bs marks))) (file_law bs marks)

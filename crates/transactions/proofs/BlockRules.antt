@@ -9,12 +9,13 @@ use Rattle.records.specs.declared.fault.RecordFault.TheVariants as faults
 use Rattle.records.specs.Format.{good_transaction, good_card, good_writer, good_words, fault_of}
 use Rattle.shelf.specs.Meaning.{Meaning}
 use Rattle.rules.specs.Rules.{some, is_read, is_writ, is_end, told, ends, kind_in_place, in_place}
+use Rattle.rules.proofs.PlaceLaws.{some_holds}
 use Rattle.verdicts.specs.Verdicts.{WritAt}
 use Rattle.isolation.specs.Account.{has_read, drafted}
 use Rattle.transactions.specs.State.{Open}
-use Rattle.transactions.specs.Journal.{Obeys}
 use Rattle.transactions.proofs.Places.{nth_cases, nth_stays, nth_behind}
-use Rattle.transactions.proofs.Rows.{row_is, row_has, some_none, some_has, obeys_append, obeys_rows}
+use Rattle.transactions.proofs.Obeying.{Obeys}
+use Rattle.transactions.proofs.Rows.{row_is, row_has, some_none, obeys_append, obeys_rows}
 use Rattle.transactions.proofs.Blocks.{named, read_line, writ_line, done_line, reading_rows, writing_rows, laid_out}
 
 -- a line whose fields pass the four tests is good
@@ -104,7 +105,7 @@ module _ (before : List Line) (m : Meaning) (o : Open) (n : ℕ) (f : Fit before
       source (inl e) = or_left (eqb (named m o x) 0) (some (told is_writ (named m o x) x) (before ++ reading_rows m o x)) (eq-eqb (named m o x) 0 e)
       source (inr (j, w)) =
           or_right (eqb (named m o x) 0) (some (told is_writ (named m o x) x) (before ++ reading_rows m o x))
-          (some_has (told is_writ (named m o x) x) (before ++ reading_rows m o x) j w.stands.line
+          (some_holds (told is_writ (named m o x) x) (before ++ reading_rows m o x) j w.stands.line
           (nth_stays before (reading_rows m o x) j w.stands.line w.stands.at)
           (and_from (is_writ w.stands.line.kind && eqb w.stands.line.transaction.0 (named m o x)) (eqb w.stands.line.card.0 x)
           (and_from (is_writ w.stands.line.kind) (eqb w.stands.line.transaction.0 (named m o x))
@@ -131,7 +132,7 @@ module _ (before : List Line) (m : Meaning) (o : Open) (n : ℕ) (f : Fit before
       own : some (told is_read o.number x) ((before ++ reading_rows m o n) ++ writing_rows o x) ≡ true
       own =
           let (i, e) = row_has (has_read o.reads) (read_line m o) n x lt (f.has_reading x d) in
-          some_has (told is_read o.number x) ((before ++ reading_rows m o n) ++ writing_rows o x) (length before + i) (read_line m o x)
+          some_holds (told is_read o.number x) ((before ++ reading_rows m o n) ++ writing_rows o x) (length before + i) (read_line m o x)
           (nth_stays (before ++ reading_rows m o n) (writing_rows o x) (length before + i) (read_line m o x)
           (nth_behind before (reading_rows m o n) i ∙ e))
           (and_from (true && eqb o.number o.number) (eqb x x)

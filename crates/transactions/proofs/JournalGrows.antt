@@ -1,5 +1,5 @@
 -- The journal with the block of a commit is that of the account after it.
-use Rattle.std.proofs.Common.{◌≡◌, ℕ, suc, ◌+◌, ◌<◌, ◌≤◌, true, ◌⊎◌, List, [], ◌++◌, length, Some, sym, ◌∙◌, subst, inl, inr, arith}
+use Rattle.std.proofs.Common.{◌≡◌, ℕ, suc, ◌+◌, ◌<◌, ◌≤◌, true, ◌⊎◌, List, ◌++◌, length, Some, sym, ◌∙◌, subst, inl, inr, arith}
 use Rattle.std.specs.List.{slice_get}
 use Rattle.records.specs.declared.kind.Kind.TheVariants as kinds
 use Rattle.records.specs.declared.line.Line.{Line}
@@ -19,7 +19,7 @@ use Rattle.transactions.specs.Shelved.{Shelved}
 use Rattle.transactions.specs.Watched.{told}
 use Rattle.transactions.proofs.Places.{nth_within, nth_cases}
 use Rattle.transactions.proofs.Current.{drafted_listed}
-use Rattle.transactions.proofs.Rows.{obeys_append}
+use Rattle.transactions.proofs.Obeying.{rules_more}
 use Rattle.transactions.proofs.Blocks.{named, laid_out, block_by, block_writ, block_once, block_read, has_writ, has_reads, has_done}
 use Rattle.transactions.proofs.BlockRules.{block_obeys}
 use Rattle.transactions.proofs.Standing.{stands_front, stands_behind, writ_front, writ_behind, read_front, read_behind, writ_cases, read_cases}
@@ -191,6 +191,6 @@ module _ (a : Account) (m : Meaning) (so : Sound m) (s : Shelved a m) (l : Lawfu
     order = order';
     read = read';
     reads = reads';
-    lines = obeys_append [] ls added j.lines (block_obeys ls m (told a t) a.listed (fit a m so s l few t o ls j));
+    lines = rules_more ls added j.lines (block_obeys ls m (told a t) a.listed (fit a m so s l few t o ls j));
     committed = committed';
   }

@@ -1,8 +1,7 @@
 -- The journal and the account, over each step that writes no line; and the rules of a file.
-use Rattle.std.proofs.Common.{◌≡◌, ℕ, ◌≤◌, true, eqb, List, [], sym, ap, subst, inl, inr, arith}
-use Rattle.std.proofs.lemmas.Bool.{and_from, eq-eqb}
+use Rattle.std.proofs.Common.{◌≡◌, ℕ, ◌≤◌, List, [], sym, subst, inl, inr, arith}
 use Rattle.records.specs.declared.line.Line.{Line}
-use Rattle.rules.specs.Rules.{some, ends, is_end}
+use Rattle.rules.specs.Lines.{Ends}
 use Rattle.verdicts.specs.Verdicts.{ReadAt, Commits}
 use Rattle.isolation.specs.Account.{Account, fresh}
 use Rattle.isolation.specs.AccountHistory.{Has, Writes}
@@ -10,7 +9,7 @@ use Rattle.transactions.specs.Journaled.{Writer, Named, Journaled}
 use Rattle.transactions.specs.Journal.{FileRules}
 use Rattle.transactions.proofs.Places.{none_some}
 use Rattle.transactions.proofs.Seen.{SameShelf}
-use Rattle.transactions.proofs.Rows.{some_has, unended_none}
+use Rattle.transactions.proofs.Obeying.{no_lines}
 
 -- nothing is written at set-up
 pub journal_begins : (n : ℕ) → Journaled (fresh n) []
@@ -23,7 +22,7 @@ journal_begins n = record {
   order = λ i j t u x k m w v p q lt. absurd (none_some w.stands.at);
   read = λ i t x w r. absurd (none_some r.stands.at);
   reads = λ t x k w r. absurd r;
-  lines = tt;
+  lines = no_lines;
   committed = λ i t x w r. absurd (none_some r.stands.at);
 }
   where
@@ -69,11 +68,7 @@ module _ (a c : Account) (ls : List Line) (e : SameShelf a c) (same : (t : ℕ) 
 
 -- the rules of a file: every transaction of the journal has its DONE
 pub journal_rules : (a : Account) (ls : List Line) → Journaled a ls → FileRules ls
-journal_rules a ls j = record {
-  lines = j.lines;
-  ended = unended_none ls ls 0 (λ k l e. ended l.transaction.0 (j.done l.transaction.0 (j.by_writer k l e)));
-}
+journal_rules a ls j = record { lines = j.lines; ended = λ i t (k, s). ended t (j.done t (subst (Writer a) s.by (j.by_writer i s.line s.at))) }
   where
-    ended : (t : ℕ) → Commits ls t → some (ends t) ls ≡ true
-    ended t (i, s) = some_has (ends t) ls i s.line s.at
-        (and_from (is_end s.line.kind) (eqb s.line.transaction.0 t) (ap is_end s.kind) (eq-eqb s.line.transaction.0 t s.by))
+    ended : (t : ℕ) → Commits ls t → Ends ls t
+    ended t (i, s) = (i, inl s)

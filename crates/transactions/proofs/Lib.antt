@@ -20,6 +20,7 @@ pub mod Theorems
 pub mod Runs
 pub mod Pinned
 pub mod Clean
+pub mod Obeying
 pub mod Rows
 pub mod Blocks
 pub mod BlockRules

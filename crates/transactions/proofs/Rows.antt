@@ -1,11 +1,11 @@
 -- Lines in rising order of a number: one for each number below n that passes a test.
 use Rattle.std.proofs.Common.{◌≡◌, ℕ, zero, suc, ◌+◌, ◌<◌, Bool, true, false, cond, ◌⊎◌, List, [], ◌∷◌, ◌++◌, length, Some, None, sym, refl, ap, ◌∙◌, subst, inl, inr, append_assoc, append-nil, arith}
 use Rattle.std.specs.List.{slice_get}
-use Rattle.std.proofs.lemmas.Bool.{cases_eq, both_ways, cond-true, or_from, or_left, or_right}
+use Rattle.std.proofs.lemmas.Bool.{cases_eq, both_ways, or_from}
 use Rattle.records.specs.declared.line.Line.{Line}
 use Rattle.records.specs.Format.{fault_of}
-use Rattle.rules.specs.Rules.{some, ends, in_place, unended}
-use Rattle.transactions.specs.Journal.{Obeys}
+use Rattle.rules.specs.Rules.{some, in_place}
+use Rattle.transactions.proofs.Obeying.{Obeys}
 use Rattle.transactions.proofs.Places.{none_some, some_same, nth_cases, nth_stays, nth_behind}
 
 abbrev pub rows : (ℕ → Bool) → (ℕ → Line) → ℕ → List Line
@@ -72,19 +72,6 @@ row_once h f c (suc n) i j l k p q e =
 pub some_none : (p : Line → Bool) (ls : List Line) → ((i : ℕ) (l : Line) → slice_get ls i ≡ Some l → p l ≡ false) → some p ls ≡ false
 some_none p [] e = refl
 some_none p (l ∷ ls) e = or_from (p l) (some p ls) (e zero l refl) (some_none p ls (λ i k q. e (suc i) k q))
-
-pub some_has : (p : Line → Bool) (ls : List Line) (i : ℕ) (l : Line) → slice_get ls i ≡ Some l → p l ≡ true → some p ls ≡ true
-some_has p [] i l e t = absurd (none_some e)
-some_has p (k ∷ ls) zero l e t = or_left (p k) (some p ls) (subst (λ z. p z ≡ true) (sym (some_same e)) t)
-some_has p (k ∷ ls) (suc i) l e t = or_right (p k) (some p ls) (some_has p ls i l e t)
-
--- every transaction of the lines has its end
-pub unended_none : (ls all : List Line) (i : ℕ) → ((k : ℕ) (l : Line) → slice_get ls k ≡ Some l → some (ends l.transaction.0) all ≡ true)
-    → unended ls all i ≡ None
-unended_none [] all i e = refl
-unended_none (l ∷ ls) all i e =
-    cond-true (some (ends l.transaction.0) all) (unended ls all (suc i)) (Some i) (e zero l refl)
-    ∙ unended_none ls all (suc i) (λ k q r. e (suc k) q r)
 
 -- the rules, over lists joined and over rows
 pub obeys_append : (before xs ys : List Line) → Obeys before xs → Obeys (before ++ xs) ys → Obeys before (xs ++ ys)

@@ -3,13 +3,13 @@
 --     Writer a t                  t wrote some version of some card
 --     Named a x k w               a READ of version k of card x names w: nobody for version 0, else the version's writer
 --     Journaled a ls              the lines ls are the reads and writes of the account's writers, each commit's together, older versions first
-use Rattle.std.specs.Prelude.{◌≡◌, ℕ, ◌<◌, ◌⊎◌, List, [], Some}
+use Rattle.std.specs.Prelude.{◌≡◌, ℕ, ◌<◌, ◌⊎◌, List, Some}
 use Rattle.std.specs.List.{slice_get}
 use Rattle.records.specs.declared.line.Line.{Line}
+use Rattle.rules.specs.Lines.{LineRules}
 use Rattle.verdicts.specs.Verdicts.{WritAt, ReadAt, Commits, CommittedReads}
 use Rattle.isolation.specs.Account.{Account}
 use Rattle.isolation.specs.AccountHistory.{Reads, Writes, WritesCard}
-use Rattle.transactions.specs.Journal.{Obeys}
 
 abbrev pub Writer : Account → ℕ → Type 0
 Writer a t = (x : ℕ) × WritesCard a t x
@@ -29,5 +29,5 @@ pub record Journaled (a : Account) (ls : List Line) : Type 0 where
   -- the READs are all that these transactions read
   pub read : (i t x w : ℕ) → ReadAt ls i t x w → (k : ℕ) × Reads a t x k × Named a x k w
   pub reads : (t x k : ℕ) → Writer a t → Reads a t x k → (i : ℕ) × (w : ℕ) × ReadAt ls i t x w × Named a x k w
-  pub lines : Obeys [] ls
+  pub lines : LineRules ls
   pub committed : CommittedReads ls

@@ -1,5 +1,5 @@
 -- What a file's lines tell of its transactions, and what the judge is asked. Assumes nothing.
---     At ls i l                   line i, counted from 0, is l
+--     At, Stands, WritAt, ReadAt  what stands at a place, in the words of a file's rules
 --     Reads ls t x k              transaction t read version k of card x
 --     Writes ls t x k             transaction t wrote version k of card x: its WRIT stands at place k - 1
 --     Commits ls t                transaction t has a DONE
@@ -7,34 +7,12 @@
 --     CommittedReads ls          each READ names writer 0, or one whose DONE stands earlier
 --     Judged ls v                 a verdict that says yes to each property exactly where it holds
 -- A version's number is one more than the place of its WRIT, so that a later WRIT writes a newer version; version 0 has no WRIT.
-use Rattle.std.specs.Prelude.{◌≡◌, ℕ, suc, ◌<◌, ◌⊎◌, List, Some, Decides}
-use Rattle.std.specs.List.{slice_get}
-use Rattle.records.specs.declared.kind.Kind.{Kind}
-use Rattle.records.specs.declared.kind.Kind.TheVariants.{Read, Writ, Done}
+use Rattle.std.specs.Prelude.{◌≡◌, ℕ, suc, ◌<◌, ◌⊎◌, List, Decides}
+use Rattle.records.specs.declared.kind.Kind.TheVariants.{Done}
 use Rattle.records.specs.declared.line.Line.{Line}
 use Rattle.verdicts.specs.declared.verdict.Verdict.{Verdict}
 use Rattle.isolation.specs.History.{History, ConsistentSnapshots, WriteConflictFree}
-
-abbrev pub At : List Line → ℕ → Line → Type 0
-At ls i l = slice_get ls i ≡ Some l
-
--- a line of kind k by transaction t stands at place i
-pub record Stands (ls : List Line) (i : ℕ) (k : Kind) (t : ℕ) : Type 0 where
-  pub line : Line
-  pub at : At ls i line
-  pub kind : line.kind ≡ k
-  pub by : line.transaction.0 ≡ t
-
--- the WRIT of card x by transaction t stands at place i
-pub record WritAt (ls : List Line) (i t x : ℕ) : Type 0 where
-  pub stands : Stands ls i Writ t
-  pub card : stands.line.card.0 ≡ x
-
--- the READ of card x by transaction t, naming the writer w, stands at place i
-pub record ReadAt (ls : List Line) (i t x w : ℕ) : Type 0 where
-  pub stands : Stands ls i Read t
-  pub card : stands.line.card.0 ≡ x
-  pub writer : stands.line.writer.0 ≡ w
+pub use Rattle.rules.specs.Lines.{At, Stands, WritAt, ReadAt}
 
 -- version k of card x is the one that w wrote: version 0 where w is nobody
 abbrev pub VersionBy : List Line → ℕ → ℕ → ℕ → Type 0

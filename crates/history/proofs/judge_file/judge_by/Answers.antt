@@ -1,7 +1,8 @@
-use Rattle.std.proofs.Common.{◌≡◌, ℕ, List, length, replicate, Ok, Err, Result, sym, refl, ap, ◌∙◌, arith}
+use Rattle.std.proofs.Common.{◌≡◌, ℕ, List, length, replicate, None, Ok, Err, Result, sym, refl, ap, ◌∙◌, subst, arith}
 use Rattle.records.specs.declared.line.Line.{Line}
 use Rattle.rules.specs.declared.judge_fault.JudgeFault.{JudgeFault}
 use Rattle.rules.specs.Rules.{accepted}
+use Rattle.rules.specs.FileLaw.{FileLaw}
 use Rattle.scan.specs.Scanning.{answered}
 use Rattle.verdicts.specs.declared.verdict.Verdict.{Verdict}
 use Rattle.verdicts.specs.Verdicts.{Judged}
@@ -19,7 +20,8 @@ returns g c =
     let long : length c.fill.new.self ≡ length c.args.marks.now = c.fill.ensures.len in
     record {
       answer = answered_by (accepted bs (length c.args.marks.now)) c.judged_by.result
-          (ap (λ n. answered (accepted bs n)) (sym long) ∙ sym c.in_ok-accept.ensures)
+          (ap (λ n. answered (accepted bs n)) (sym long) ∙ sym c.in_ok-accept.ensures.answer)
           (λ ls e. c.judged_by.ensures.verdict ls (ap (accepted bs) long ∙ e));
+      law = subst (λ n. FileLaw bs n None) long c.in_ok-accept.ensures.law;
       clear = c.judged_by.ensures.clear ∙ ap (λ n. replicate {A = ℕ} n 0) long;
     }

@@ -1,5 +1,5 @@
 // The slip of an open transaction.
-ghost use Rattle.std.specs.Prelude.{◌≡◌, Some};
+ghost use Rattle.std.specs.Prelude.{◌≡◌};
 
 use entries::Numbered;
 use stamps::TxNo;
@@ -21,10 +21,13 @@ impl Slip {
 
 // Slips are found by the transaction's number.
 impl Numbered for Slip {
-    ghost numbering = { λ s. Some s.number.0 };
+    type Number = TxNo;
 
-    fn number(&self) -> Option<u32> {
-        Some(self.number.0)
+    ghost numbering = { λ s. s.number };
+
+    fn number(&self) -> TxNo {
+        let Slip { number } = self;
+        *number
     }
 }
 

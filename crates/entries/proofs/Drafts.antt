@@ -1,10 +1,11 @@
 -- Readings and drafts as lists of cards. Assumes nothing.
-use Rattle.std.proofs.Common.{◌≡◌, ℕ, zero, suc, ◌<◌, Bool, true, false, cond, ◌||◌, eqb, List, [], ◌∷◌, ◌++◌, map, length, get_or, set, Some, None, Option, sym, refl, ap, ◌∙◌, arith}
+use Rattle.std.proofs.Common.{◌≡◌, ℕ, zero, suc, ◌<◌, Bool, true, false, cond, ◌||◌, eqb, List, [], ◌∷◌, ◌++◌, map, length, get_or, set, is_some, Some, None, Option, sym, refl, ap, ◌∙◌, arith}
 use Rattle.std.specs.List.{list_any, slice_get}
 use Rattle.std.specs.Option.{option_map, option_and_then, unwrap_or}
 use Rattle.std.proofs.lemmas.List.{length-map, get_or-map}
 use Rattle.std.proofs.lemmas.Option.{slice_get-get_or}
-use Rattle.std.proofs.lemmas.Bool.{eq-eqb, eqb-true, or_parts, or_from, or_left, or_right, cond-true, cond-false}
+use Rattle.std.proofs.lemmas.Bool.{eq-eqb, eqb-true, or_parts, or_from, or_left, or_right, cond-true, cond-false, false≢true}
+use Rattle.stamps.specs.declared.numbers.VersionNo.{VersionNo}
 use Rattle.stamps.specs.declared.value.Value.{Value}
 use Rattle.isolation.specs.Account.{Reading, Draft, has_read, drafted, draft_of, with_draft}
 use Rattle.transactions.specs.Choosing.{version_read}
@@ -154,3 +155,33 @@ version_read_lacks (r ∷ rs) x e = go (eqb r.card x) refl (version_read_lacks r
         (eqb r.card x || has_read rs x) ≡ false
     go true t rest e = let z : ◌≡◌ {A = ℕ} 0 1 = cc in absurd (omega arith)
     go false t rest e = or_from (eqb r.card x) (has_read rs x) t (rest e)
+
+-- a card is among those read, and those drafted, where something is found of it
+pub read_found : (rs : List Reading) (x : ℕ) (r : Option VersionNo) → option_map (λ v. v.0) r ≡ version_read rs x → has_read rs x ≡ is_some r
+read_found rs x None e = version_read_lacks rs x (sym e)
+read_found rs x (Some v) e = version_read_has rs x v.0 (sym e)
+
+draft_of_there : (ds : List Draft) (x : ℕ) → drafted ds x ≡ true → (v w : Value) → draft_of ds x v ≡ draft_of ds x w
+draft_of_there [] x e v w = absurd (false≢true e)
+draft_of_there (d ∷ ds) x e v w = go (eqb d.card x) (draft_of_there ds x) e
+  where
+    go : (b : Bool) → (drafted ds x ≡ true → (v w : Value) → draft_of ds x v ≡ draft_of ds x w) → (b || drafted ds x) ≡ true →
+        cond b d.value (draft_of ds x v) ≡ cond b d.value (draft_of ds x w)
+    go true rest e = refl
+    go false rest e = rest e v w
+
+-- no words are both these
+abbrev words : ℕ → Value
+words n = record { first = n; second = 0 }
+
+differ : words 0 ≡ words 1 → ⊥
+differ e = let n : ◌≡◌ {A = ℕ} 0 1 = ap (λ (v : Value). v.first) e in omega arith
+
+pub draft_found : (ds : List Draft) (x : ℕ) (r : Option Value) → ((v : Value) → unwrap_or r v ≡ draft_of ds x v) → drafted ds x ≡ is_some r
+draft_found ds x r e = go r (drafted ds x) refl e
+  where
+    go : (r : Option Value) (b : Bool) → drafted ds x ≡ b → ((v : Value) → unwrap_or r v ≡ draft_of ds x v) → b ≡ is_some r
+    go None true t e = absurd (differ (e (words 0) ∙ draft_of_there ds x t (words 0) (words 1) ∙ sym (e (words 1))))
+    go None false t e = refl
+    go (Some u) true t e = refl
+    go (Some u) false t e = absurd (differ (sym (e (words 0) ∙ draft_of_none ds x (words 0) t) ∙ e (words 1) ∙ draft_of_none ds x (words 1) t))

@@ -7,4 +7,4 @@ mod search;
 
 pub use entries::{DraftEntry, OpenPlace, ReadEntry, Taken};
 pub use order::{RisingEntries, rising};
-pub use search::{Next, Numbered, any_with, last_entry, last_with, next_from};
+pub use search::{Next, Numbered, last_entry, last_with, next_from};

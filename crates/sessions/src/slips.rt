@@ -12,7 +12,7 @@ use transactions::Refusal;
 pub(crate) fn slip_of(slips: &[Slip], number: TxNo) -> Option<&Slip>
     ensures { MatchOption result (holds slips.now number.0 ≡ false) (λ s. (holds slips.now number.0 ≡ true) × (s.now.number ≡ number)) }
 {
-    last_entry(slips, number.0)
+    last_entry(slips, number)
 }
 
 // The slip of a transaction, to hand in.
@@ -21,7 +21,7 @@ pub(crate) fn take_slip(slips: &mut Vec<Slip>, number: TxNo) -> Option<Slip>
     ensures rest { slips.new.items ≡ without slips.old.items number.0 }
     ensures room { OnSome result (vec_len slips.new < vec_capacity slips.new) }
 {
-    let place = last_with(slips.as_slice(), number.0)?;
+    let place = last_with(slips.as_slice(), number)?;
     Some(slips.remove(place))
 }
 

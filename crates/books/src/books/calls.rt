@@ -9,7 +9,7 @@ ghost use Rattle.books.specs.States.{state_of, sizes_of, new_state, number_given
 
 use crate::books::Books;
 use crate::slip::Slip;
-use entries::{DraftEntry, any_with};
+use entries::DraftEntry;
 use journals::Journal;
 use records::Line;
 use stamps::{CardNo, TxNo, Value};
@@ -86,11 +86,10 @@ impl Books {
             return Err(Refusal::NoCard);
         }
         let here = self.table.at(place);
-        if !any_with(here.reads(), card.0) {
+        if here.version_read(card).is_none() {
             return Err(Refusal::Unread);
         }
-        let drafts = here.drafts();
-        if drafts.len() >= DRAFTS && !any_with(drafts, card.0) {
+        if here.drafts().len() >= DRAFTS && here.draft_of(card).is_none() {
             return Err(Refusal::DraftsOut);
         }
         Ok(())

@@ -29,7 +29,7 @@ impl Journal {
     pub fn last(&self, number: TxNo) -> Option<usize>
         ensures { result ≡ last_at (λ l. nat_eq l.transaction.0 number.0) (log_of self.now).lines }
     {
-        last_with(self.written(), number.0)
+        last_with(self.written(), number)
     }
 
     // How many more lines it takes.

@@ -57,14 +57,14 @@ impl OpenTable {
     pub fn find(&self, number: TxNo) -> Option<usize>
         ensures { result ≡ last_at (numbered number.0) (list_of self.now) }
     {
-        last_with(self.in_use(), number.0)
+        last_with(self.in_use(), Some(number))
     }
 
     // The last free place, so that a search from the last place on finds a new transaction soon.
     pub fn free_place(&self) -> Option<usize>
         ensures { MatchOption result (all_taken (list_of self.now) ≡ true) (λ i. slice_get (list_of self.now) i ≡ Some None) }
     {
-        self.in_use().iter().rposition(|place| place.is_none())
+        last_with(self.in_use(), None)
     }
 
     // The open transaction in a place, and how many cards it has read and drafted.

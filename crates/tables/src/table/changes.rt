@@ -58,7 +58,7 @@ impl OpenTable {
         requires few { (drafted (at (list_of self.old) place).drafts draft.card.0 || nat_lt (length (at (list_of self.old) place).drafts) 32) ≡ true }
         ensures { table_of self.new ≡ with_place (table_of self.old) place (Some (draft_set (at (list_of self.old) place) draft.card.0 draft.value)) }
     {
-        match last_with(self.at(place).drafts(), draft.card.0) {
+        match last_with(self.at(place).drafts(), draft.card) {
             Some(nth) => self.replace_draft(place, nth, draft),
             None => self.add_draft(place, draft),
         }

@@ -52,13 +52,13 @@ impl<'a> OpenAt<'a> {
     pub fn version_read(&self, card: CardNo) -> Option<VersionNo>
         ensures { option_map (λ v. v.0) result ≡ version_read (seat self.now).reads card.0 }
     {
-        last_entry(self.reads(), card.0).map(|entry| entry.version)
+        last_entry(self.reads(), card).map(|entry| entry.version)
     }
 
     // What it has drafted for a card.
     pub fn draft_of(&self, card: CardNo) -> Option<Value>
         ensures { (v : Value) → unwrap_or result v ≡ draft_of (seat self.now).drafts card.0 v }
     {
-        last_entry(self.drafts(), card.0).map(|entry| entry.value)
+        last_entry(self.drafts(), card).map(|entry| entry.value)
     }
 }

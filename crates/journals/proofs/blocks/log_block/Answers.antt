@@ -1,4 +1,4 @@
-use Rattle.std.proofs.Common.{List, [], ◌∷◌, ◌++◌, map, sym, refl, ap, ◌∙◌, arith}
+use Rattle.std.proofs.Common.{List, [], ◌∷◌, ◌++◌, map, sym, ap, ◌∙◌, arith}
 use Rattle.std.proofs.lemmas.List.{append_assoc}
 use Rattle.stamps.specs.Counts.{room}
 use Rattle.records.specs.declared.kind.Kind.TheVariants as kinds
@@ -13,12 +13,11 @@ use Rattle.journals.proofs.blocks.log_block.Goals as goal
 
 pub log_each-requires : goal.log_each-requires
 log_each-requires g c =
-    record { numbered = λ e. refl; listed = ap (apart room) (sym (reading_cards c.args.reads.now)) ∙ c.requires.read; space = omega (arith, c.requires.space) }
+    record { listed = ap (apart room) (sym (reading_cards c.args.reads.now)) ∙ c.requires.read; space = omega (arith, c.requires.space) }
 
 pub log_each-requires-2 : goal.log_each-requires-2
 log_each-requires-2 g c =
     record {
-      numbered = λ e. refl;
       listed = ap (apart room) (sym (drafting_cards c.args.drafts.now)) ∙ c.requires.drafted;
       space = omega (arith, c.log_each.ensures.many, c.log_each.ensures.size, c.requires.space);
     }

@@ -1,3 +1,4 @@
 pub mod PickLaws
 mod LinkLaws
 pub mod SearchLaws
+pub mod LeadLaws

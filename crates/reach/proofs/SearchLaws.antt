@@ -6,7 +6,7 @@ use Rattle.std.proofs.lemmas.Bool.{cases_lt, cases_eq, cases_Bool}
 use Rattle.std.proofs.lemmas.Bool.Decides.{nat_tests}
 use Rattle.reach.specs.Links.{places, from, to}
 use Rattle.reach.specs.Paths.{Edge, Path, Marked, Reached}
-use Rattle.reach.specs.Searches.{waiting, unmarked, Room, Closed, Waits, Is, Found, Search}
+use Rattle.reach.specs.Searches.{waiting, unmarked, Room, Closed, Waits, Bits, Is, Found, Search}
 use Rattle.reach.specs.declared.queue.Queue.{Queue}
 
 -- the nodes of a queue are the first of its places
@@ -72,6 +72,16 @@ unmarked_same ms n (suc k) m =
     marked_blank : (x : ℕ) → 0 < x → blank x ≡ 0
     marked_blank x lt = let some : eqb x 0 ≡ false = grind (arith, nat_tests) in ap (λ b. cond b 1 0) some
 
+-- a mark that is set is 1
+set_bits : (ms : List ℕ) (n : ℕ) → Bits ms → Bits (set ms n 1)
+set_bits ms n s b = elim (cases_eq b n) [
+  | inl e ↦ elim (cases_lt n (length ms)) [
+    | inl lt ↦ rw e (omega (arith, get_or-set_same ms n 1 0 lt))
+    | inr past ↦ rw e (omega (arith, get_or_past (set ms n 1) n 0 (omega (arith, length-set ms n 1))))
+  ]
+  | inr ne ↦ omega (arith, get_or-set_other ms n b 1 0 ne, s b)
+]
+
 -- the queue with node n behind the others
 abbrev put : List ℕ → ℕ → List ℕ
 put q n = q ++ n ∷ []
@@ -86,6 +96,7 @@ visited ms q n room small in' blank = record {
   nodes = λ i lt. get_or_append_left q (n ∷ []) 0 i lt;
   only = λ b m. elim (cases_eq b n) [ inl e ↦ inr (e, omega arith, (length q, omega (arith, longer), last ∙ sym e)) | inr ne ↦ inl (omega (arith, get_or-set_other ms n b 1 0 ne)) ];
   fresh = λ i ge lt. let s : i ≡ length q = omega (arith, longer) in rw s (rw last new);
+  bits = set_bits ms n;
 }
   where
     new : Marked (set ms n 1) n
@@ -106,6 +117,7 @@ revisited ms q n room was = record {
   nodes = λ i lt. refl;
   only = λ b m. elim (cases_eq b n) [ inl e ↦ inl (rw e was) | inr ne ↦ inl (omega (arith, get_or-set_other ms n b 1 0 ne)) ];
   fresh = λ i ge lt. absurd (omega arith);
+  bits = set_bits ms n;
 }
 
 pub found_none : {P : ℕ → Type 0} (ms q : List ℕ) → Room ms q → Found P ms ms q q
@@ -117,6 +129,7 @@ found_none ms q room = record {
   nodes = λ i lt. refl;
   only = λ b m. inl m;
   fresh = λ i ge lt. absurd (omega arith);
+  bits = λ s. s;
 }
 
 module _ {P Q : ℕ → Type 0} {ms ms' ms'' q q' q'' : List ℕ} (sub : (b : ℕ) → Q b → P b)
@@ -144,6 +157,7 @@ module _ {P Q : ℕ → Type 0} {ms ms' ms'' q q' q'' : List ℕ} (sub : (b : �
       | inl small ↦ rw (g.nodes i small) (g.marks (get_or q' i 0) (f.fresh i ge small))
       | inr large ↦ g.fresh i large lt
     ];
+    bits = λ s. g.bits (f.bits s);
   }
 
 path_snoc : (es : List (ℕ × ℕ)) (n : ℕ) {a c : ℕ} (b : ℕ) → Path es n a c → Edge es c b → b < n → Path es n a b
@@ -182,6 +196,7 @@ module _ (es : List (ℕ × ℕ)) (a c : ℕ) {ms ms' q q' : List ℕ} (s : Sear
       | inl small ↦ rw (f.nodes i small) (f.marks (get_or q i 0) (s.marked i small))
       | inr large ↦ f.fresh i large lt
     ];
+    bits = f.bits s.bits;
   }
 
   -- what was closed still is
@@ -210,12 +225,16 @@ none_marked n b m = elim (cases_lt b n) [
   | inr ge ↦ omega (arith, get_or_past (replicate {A = ℕ} n 0) b 0 (omega (arith, length-replicate {A = ℕ} n 0)))
 ]
 
+clear_bits : (ms : List ℕ) → ((b : ℕ) → Marked ms b → ⊥) → Bits ms
+clear_bits ms none b = elim (cases_lt 0 (get_or ms b 0)) [ inl m ↦ absurd (none b m) | inr ge ↦ omega arith ]
+
 pub search_none : (es : List (ℕ × ℕ)) (a : ℕ) (ms q : List ℕ) → ((b : ℕ) → Marked ms b → ⊥) → length q ≡ 0 → Search es a ms q
 search_none es a ms q none empty = record {
   room = omega (arith, unmarked_most ms places);
   sound = λ b m. absurd (none b m);
   waits = λ b m. absurd (none b m);
   marked = λ i lt. absurd (omega arith);
+  bits = clear_bits ms none;
 }
 
 -- no path leads from a node past the last

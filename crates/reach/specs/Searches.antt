@@ -6,6 +6,7 @@
 --     Waits q b                   node b is in the queue, which is seen as the list of its nodes
 --     Clear ms                    no node is marked
 --     Listed ms q                 every marked node is in the queue
+--     Bits ms                     no mark is above 1
 --     Found P ms ms' q q'         from marks ms to ms' only nodes with P were marked, each put into the queue behind those that were there
 --     Is n                        being node n
 --     Search es a ms q            marked are the nodes of the queue, a path leads to each, and there is room for the others
@@ -36,6 +37,9 @@ Clear ms = (b : ℕ) → Marked ms b → ⊥
 abbrev pub Listed : List ℕ → List ℕ → Type 0
 Listed ms q = (b : ℕ) → Marked ms b → Waits q b
 
+abbrev pub Bits : List ℕ → Type 0
+Bits ms = (b : ℕ) → slice_index ms b ≤ 1
+
 abbrev pub Is : ℕ → ℕ → Type 0
 Is n b = b ≡ n
 
@@ -47,9 +51,11 @@ pub record Found (P : ℕ → Type 0) (ms ms' q q' : List ℕ) : Type 0 where
   pub nodes : (i : ℕ) → i < length q → slice_index q' i ≡ slice_index q i
   pub only : (b : ℕ) → Marked ms' b → Marked ms b ⊎ (P b × (b < length ms) × Waits q' b)
   pub fresh : (i : ℕ) → length q ≤ i → i < length q' → Marked ms' (slice_index q' i)
+  pub bits : Bits ms → Bits ms'
 
 pub record Search (es : List (ℕ × ℕ)) (a : ℕ) (ms q : List ℕ) : Type 0 where
   pub room : Room ms q
   pub sound : (b : ℕ) → Marked ms b → Path es (length ms) a b
   pub waits : (b : ℕ) → Marked ms b → Waits q b
   pub marked : (i : ℕ) → i < length q → Marked ms (slice_index q i)
+  pub bits : Bits ms

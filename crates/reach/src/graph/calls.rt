@@ -1,6 +1,6 @@
 ghost use Rattle.std.specs.Prelude.{◌≡◌, ◌<◌, [], ◌∷◌, ◌++◌, length, if◌then◌else◌};
 ghost use Rattle.reach.specs.Links.{places, leaves, picks, behind};
-ghost use Rattle.reach.specs.Paths.{edges, taken, Edge, Reached};
+ghost use Rattle.reach.specs.Paths.{edges, taken, Edge, Reached, marks_from};
 ghost use Rattle.reach.specs.Searches.{waiting, Room, Found, Closed, Clear, Listed};
 
 use super::super::queue::Queue;
@@ -47,9 +47,11 @@ impl Graph {
         Places::from_node(self, node)
     }
 
-    // Marks exactly the nodes that can be come to from `from` by one or more edges, each to a node that has a mark.
+    /// Marks with 1 exactly the nodes that can be reached from `from` by one or more edges, each to a
+    /// node that has a mark; every other mark is 0 then, whatever it was.
     pub fn reach(&self, from: usize, marks: &mut [u32])
-        ensures { Reached (edges self.now) from marks.new }
+        ensures marks { marks.new ≡ marks_from (edges self.now) from (length marks.old) }
+        ensures reached { Reached (edges self.now) from marks.new }
     {
         marks.fill(0);
         let mut queue = Queue::new();
@@ -61,6 +63,7 @@ impl Graph {
     pub fn search(&self, from: usize, marks: &mut [u32], queue: &mut Queue)
         requires clear { Clear marks.old }
         requires empty { waiting queue.old ≡ [] }
+        ensures marks { marks.new ≡ marks_from (edges self.now) from (length marks.old) }
         ensures reached { Reached (edges self.now) from marks.new }
         ensures listed { Listed marks.new (waiting queue.new) }
     {

@@ -1,5 +1,5 @@
-use Rattle.std.proofs.Common.{ℕ, List, length, subst}
-use Rattle.reach.specs.Paths.{Marked}
+use Rattle.std.proofs.Common.{ℕ, List, length, ap, ◌∙◌, subst}
+use Rattle.reach.specs.Paths.{edges, Marked, marks_from}
 use Rattle.reach.proofs.SearchLaws.{none_marked}
 use Rattle.reach.proofs.graph.Graph.reach.Goals as goal
 
@@ -10,4 +10,7 @@ search-requires c = record {
 }
 
 pub returns : goal.returns
-returns c = c.search.ensures.reached
+returns c = record {
+  marks = c.search.ensures.marks ∙ ap (marks_from (edges c.args.self.now) c.args.from) c.fill.ensures.len;
+  reached = c.search.ensures.reached;
+}

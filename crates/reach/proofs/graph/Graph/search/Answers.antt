@@ -1,7 +1,8 @@
-use Rattle.std.proofs.Common.{◌≡◌, ℕ, ◌<◌, ◌≤◌, length, get_or, sym, refl, ap, subst, inl, inr, arith}
+use Rattle.std.proofs.Common.{◌≡◌, ℕ, ◌<◌, ◌≤◌, length, get_or, sym, refl, ap, ◌∙◌, subst, inl, inr, arith}
 use Rattle.std.proofs.lemmas.Bool.{cases_lt}
-use Rattle.reach.specs.Paths.{edges}
+use Rattle.reach.specs.Paths.{edges, Reached, marks_from}
 use Rattle.reach.specs.Searches.{waiting, Closed}
+use Rattle.reach.proofs.LeadLaws.{reached_marks}
 use Rattle.reach.proofs.SearchLaws.{waiting_long, waiting_at, search_none, search_more, closed_more, all_reached, path_inside, path_from_inside}
 use Rattle.reach.proofs.graph.Graph.search.Goals as goal
 
@@ -9,11 +10,14 @@ pub returns-then-from-ge-PLACES : goal.returns-then-from-ge-PLACES
 returns-then-from-ge-PLACES c =
     let g = c.args.self.now in
     let es = edges g in
+    let ms = c.args.marks.now in
+    let reached : Reached es c.args.from ms = record {
+      sound = λ b m. absurd (c.requires.clear b m);
+      complete = λ b p. absurd (omega (arith, path_from_inside es (length ms) (λ k lt. (g.within k lt).0) p));
+    } in
     record {
-      reached = record {
-        sound = λ b m. absurd (c.requires.clear b m);
-        complete = λ b p. absurd (omega (arith, path_from_inside es (length c.args.marks.now) (λ k lt. (g.within k lt).0) p));
-      };
+      marks = reached_marks es c.args.from ms reached (search_none es c.args.from ms (waiting c.args.queue.now) c.requires.clear (ap length c.requires.empty)).bits;
+      reached = reached;
       listed = λ b m. absurd (c.requires.clear b m);
     }
 
@@ -71,7 +75,12 @@ loop-next-preserved c =
 pub returns : goal.returns
 returns c =
     let inv = c.loop-next.invariant in
+    let es = edges c.args.self.now in
+    let ms = c.loop-next.marks in
+    let reached = all_reached es c.args.from ms (waiting c.loop-next.queue) inv.0 (λ i lt. inv.2 i (omega (arith, waiting_long c.loop-next.queue, c.loop-next-test.false))) inv.1 in
+    let long : length ms ≡ length c.args.marks.now = omega (arith, c.loop-next.auto.marks, c.expand.auto.marks) in
     record {
-      reached = all_reached (edges c.args.self.now) c.args.from c.loop-next.marks (waiting c.loop-next.queue) inv.0 (λ i lt. inv.2 i (omega (arith, waiting_long c.loop-next.queue, c.loop-next-test.false))) inv.1;
+      marks = reached_marks es c.args.from ms reached inv.0.bits ∙ ap (marks_from es c.args.from) long;
+      reached = reached;
       listed = inv.0.waits;
     }

@@ -2,7 +2,8 @@
 ghost use Rattle.std.specs.Prelude.{◌≡◌, ℕ, ◌+◌, ◌≤◌, true, map, length};
 ghost use Rattle.stamps.specs.Counts.{room};
 ghost use Rattle.records.specs.declared.kind.Kind.TheVariants as kinds;
-ghost use Rattle.transactions.specs.Committing.{line, no_words, block};
+ghost use Rattle.records.specs.Format.{no_words};
+ghost use Rattle.transactions.specs.Committing.{line, block};
 ghost use Rattle.journals.specs.Journals.{log_of, log_room, with_lines};
 ghost use Rattle.entries.specs.Numbers.{apart};
 ghost use Rattle.entries.specs.Contents.{reading, drafting, read_cards, draft_cards, opening};
@@ -10,9 +11,9 @@ ghost use Rattle.entries.specs.Contents.{reading, drafting, read_cards, draft_ca
 use crate::journal::Journal;
 use crate::rising::log_each;
 use entries::{DraftEntry, ReadEntry};
-use records::{Kind, Line};
+use records::{Kind, Line, NO_WORDS};
 use shelf::Shelf;
-use stamps::{CardNo, TxNo, Value};
+use stamps::{CardNo, TxNo};
 
 // The line that ends a block.
 fn done(number: TxNo) -> Line
@@ -23,7 +24,7 @@ fn done(number: TxNo) -> Line
         transaction: number,
         card: CardNo(0),
         writer: TxNo(0),
-        value: Value::BLANK,
+        value: NO_WORDS,
     }
 }
 

@@ -6,7 +6,8 @@
 --     number_at bs at n           the number that the n bytes of bs from place `at` write, highest byte first
 --     bytes_of n v                the n bytes that write v, highest byte first
 --     line_of k bs                the line of kind k whose fields stand in bs
---     In-transaction .. no-words  the tests of a line's fields, one each
+--     no_words                    the words of a record that carries no value: of a READ, a DONE and a GONE
+--     good_transaction .. good_words      the tests of a line's fields, one each
 --     transaction_in bs, card_in bs       the transaction and the card that stand in a record's bytes
 --     fault_of l                  the first bad field of a line, if any, of transaction, card, writer and words
 --     decoded bs                  what the bytes of a record read as
@@ -100,12 +101,18 @@ good_writer Writ t w = w == t
 good_writer Done t w = w == 0
 good_writer Gone t w = w == 0
 
+abbrev pub no_words : Value
+no_words = record { first = 0; second = 0 }
+
+abbrev pub has_no_words : Value → Bool
+has_no_words v = v.first == no_words.first && v.second == no_words.second
+
 -- only a WRIT has words
 abbrev pub good_words : Kind → Value → Bool
-good_words Read v = v.first == 0 && v.second == 0
+good_words Read v = has_no_words v
 good_words Writ v = true
-good_words Done v = v.first == 0 && v.second == 0
-good_words Gone v = v.first == 0 && v.second == 0
+good_words Done v = has_no_words v
+good_words Gone v = has_no_words v
 
 abbrev pub fault_of : Line → Option RecordFault
 fault_of l =

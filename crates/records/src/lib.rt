@@ -15,7 +15,7 @@ pub const RECORD_SIZE: usize = 32;
 
 pub use fault::{PlacedFault, RecordFault};
 pub use kind::Kind;
-pub use line::Line;
+pub use line::{Line, NO_WORDS};
 pub use reader::RecordReader;
 
 #[cfg(test)]

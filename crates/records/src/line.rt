@@ -16,6 +16,12 @@ pub struct Line {
     pub value: Value,
 }
 
+/// The words of a record that carries no value: of a READ, a DONE and a GONE.
+pub const NO_WORDS: Value = Value {
+    first: 0,
+    second: 0,
+};
+
 const LAST_TRANSACTION: u32 = 1_000_000;
 
 const LAST_CARD: u32 = 255;
@@ -76,7 +82,7 @@ impl Line {
     {
         match self.kind {
             Kind::Writ => true,
-            Kind::Read | Kind::Done | Kind::Gone => self.value.first == 0 && self.value.second == 0,
+            Kind::Read | Kind::Done | Kind::Gone => self.value == NO_WORDS,
         }
     }
 }

@@ -1,7 +1,7 @@
 use super::opinion::Letters;
 use super::second::second_judge;
-use records::{Kind, Line, RECORD_SIZE};
-use stamps::{CardNo, TxNo, Value};
+use records::{Kind, Line, NO_WORDS, RECORD_SIZE};
+use stamps::{CardNo, TxNo};
 use std::alloc::Global;
 use std::test::Fail;
 
@@ -11,7 +11,7 @@ fn line(kind: Kind, transaction: u32, card: u32, writer: u32) -> Line {
         transaction: TxNo(transaction),
         card: CardNo(card),
         writer: TxNo(writer),
-        value: Value::BLANK,
+        value: NO_WORDS,
     }
 }
 

@@ -6,7 +6,7 @@ pub struct Value {
 }
 
 impl Value {
-    // What version 0 of every card holds.
+    /// What version 0 of every card holds. Nothing else says so: the definitions cite this constant.
     pub const BLANK: Value = Value {
         first: 0,
         second: 0,

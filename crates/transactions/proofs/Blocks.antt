@@ -3,13 +3,14 @@ use Rattle.std.proofs.Common.{◌≡◌, ℕ, zero, suc, ◌+◌, ◌<◌, true,
 use Rattle.std.specs.List.{slice_get}
 use Rattle.records.specs.declared.kind.Kind.TheVariants as kinds
 use Rattle.records.specs.declared.line.Line.{Line}
+use Rattle.records.specs.Format.{no_words}
 use Rattle.stamps.specs.Blank.{blank}
 use Rattle.shelf.specs.Meaning.{Meaning}
 use Rattle.verdicts.specs.Verdicts.{Stands, WritAt, ReadAt}
 use Rattle.isolation.specs.Account.{has_read, drafted, draft_of}
 use Rattle.transactions.specs.State.{Open}
 use Rattle.transactions.specs.Choosing.{version_read}
-use Rattle.transactions.specs.Committing.{line, no_words, writer_at, read_lines, writ_lines, block}
+use Rattle.transactions.specs.Committing.{line, writer_at, read_lines, writ_lines, block}
 use Rattle.transactions.proofs.Places.{none_some, some_same, nth_cases, nth_stays, nth_behind}
 use Rattle.transactions.proofs.Rows.{rows, row_is, row_has, row_once}
 

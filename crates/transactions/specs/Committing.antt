@@ -15,6 +15,7 @@ use Rattle.stamps.specs.Counts.{most, cut}
 use Rattle.records.specs.declared.kind.Kind.{Kind}
 use Rattle.records.specs.declared.kind.Kind.TheVariants as kinds
 use Rattle.records.specs.declared.line.Line.{Line}
+use Rattle.records.specs.Format.{no_words}
 use Rattle.shelf.specs.Meaning.{Version, Meaning, newest}
 use Rattle.shelf.specs.Questions.{writer_of}
 use Rattle.shelf.specs.Putting.{added}
@@ -85,9 +86,6 @@ put_cards m o (suc x) = cond (drafted o.drafts x) (added (put_cards m o x) x (ne
 abbrev pub line : Kind → (n x w : ℕ) → Value → Line
 line k n x w v =
     record { kind = k; transaction = record { 0 = n }; card = record { 0 = x }; writer = record { 0 = w }; value = v }
-
-abbrev pub no_words : Value
-no_words = record { first = 0; second = 0 }
 
 abbrev pub writer_at : Meaning → ℕ → Option ℕ → ℕ
 writer_at m x None = 0

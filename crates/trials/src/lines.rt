@@ -1,4 +1,4 @@
-use records::{Kind, Line};
+use records::{Kind, Line, NO_WORDS};
 use stamps::{CardNo, TxNo, Value};
 use std::alloc::AllocError;
 
@@ -12,7 +12,7 @@ pub fn read(transaction: TxNo, card: CardNo, writer: TxNo) -> Line {
         transaction,
         card,
         writer,
-        value: Value::BLANK,
+        value: NO_WORDS,
     }
 }
 
@@ -40,7 +40,7 @@ fn end(kind: Kind, transaction: TxNo) -> Line {
         transaction,
         card: CardNo(0),
         writer: NOBODY,
-        value: Value::BLANK,
+        value: NO_WORDS,
     }
 }
 

@@ -3,7 +3,8 @@ use Rattle.std.proofs.lemmas.List.{append_assoc}
 use Rattle.stamps.specs.Counts.{room}
 use Rattle.records.specs.declared.kind.Kind.TheVariants as kinds
 use Rattle.records.specs.declared.line.Line.{Line}
-use Rattle.transactions.specs.Committing.{line, no_words, read_lines, writ_lines}
+use Rattle.records.specs.Format.{no_words}
+use Rattle.transactions.specs.Committing.{line, read_lines, writ_lines}
 use Rattle.entries.specs.Contents.{reading, drafting, opening}
 use Rattle.entries.specs.Numbers.{apart}
 use Rattle.entries.proofs.Drafts.{reading_cards, drafting_cards}

@@ -4,7 +4,10 @@
 --     counts_text cs              as 4 records: 1 READ, 1 WRIT, 1 DONE, 1 GONE
 --     text_from bs i n cs         what is printed from record i on, with n records to come and the counts so far
 --     dump_text bs                what is printed of a file
-use Rattle.std.specs.Prelude.{ℕ, zero, suc, ◌+◌, List, ◌++◌, Ok, Err, codes, decimal, Result}
+--     PrintsFrom known old new    of the bytes that are known to come the text was written: what the
+--                                 writer held is old, and what it holds is new
+use Rattle.std.specs.Prelude.{ℕ, zero, suc, ◌+◌, List, ◌++◌, Ok, Err, codes, decimal, IfSome, Option, Result}
+use Rattle.std.specs.Io.KnownBytes.{Appends}
 use Rattle.records.specs.declared.kind.Kind.{Kind}
 use Rattle.records.specs.declared.kind.Kind.TheVariants.{Read, Writ, Done, Gone}
 use Rattle.records.specs.declared.line.Line.{Line}
@@ -48,3 +51,6 @@ text_of_size bs (Err f) = refused_line f
 
 abbrev pub dump_text : List ℕ → List ℕ
 dump_text bs = text_of_size bs (counted bs)
+
+abbrev pub PrintsFrom : (known old new : Option (List ℕ)) → Type 0
+PrintsFrom known old new = IfSome known (λ file. Appends old new (dump_text file))

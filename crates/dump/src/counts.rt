@@ -1,8 +1,10 @@
-ghost use Rattle.std.specs.Prelude.{◌≡◌, ◌+◌, ◌^◌, ◌<◌, Some};
+ghost use Rattle.std.specs.Prelude.{◌≡◌, ◌+◌, ◌^◌, ◌<◌, ◌≤◌, ◌++◌, length, decimal};
+ghost use Rattle.arrayvec.specs.ArrayString.{array_string_len};
 ghost use Rattle.dump.specs.Dump.{total as total_of, counted_in, counts_text};
 
+use arrayvec::ArrayString;
 use history::Kind;
-use std::fmt;
+use itoa::Buffer;
 
 // How many records of each kind have come.
 #[derive(Clone, Copy, Default)]
@@ -37,21 +39,31 @@ impl Counts {
     }
 }
 
-// As `4 records: 1 READ, 1 WRIT, 1 DONE, 1 GONE`.
-impl fmt::Display for Counts {
-    ghost output = { λ cs. Some (counts_text cs) };
+/// How many bytes the counts' text has at most.
+pub const COUNTS_SIZE: usize = 96;
 
-    fn fmt<W: fmt::Write>(&self, f: &mut fmt::Formatter<W>) -> fmt::Result {
-        let total = self.total();
-        let Counts {
-            reads,
-            writs,
-            dones,
-            gones,
-        } = *self;
-        write!(
-            f,
-            "{total} records: {reads} READ, {writs} WRIT, {dones} DONE, {gones} GONE"
-        )
+impl Counts {
+    /// The counts in words, as `4 records: 1 READ, 1 WRIT, 1 DONE, 1 GONE`.
+    pub fn text(&self) -> ArrayString<COUNTS_SIZE>
+        ensures { result.bytes ≡ counts_text self.now }
+    {
+        let mut text = ArrayString::new();
+        text.push_str(Buffer::new().format(self.total()));
+        text.push_str(" records: ");
+        push_count(&mut text, self.reads, " READ, ");
+        push_count(&mut text, self.writs, " WRIT, ");
+        push_count(&mut text, self.dones, " DONE, ");
+        push_count(&mut text, self.gones, " GONE");
+        text
     }
+}
+
+// Puts a count and a word behind the text, for which there is room.
+fn push_count(text: &mut ArrayString<COUNTS_SIZE>, count: u32, word: &str)
+    requires { array_string_len text.old + 10 + length word.now ≤ COUNTS_SIZE }
+    ensures bytes { text.new.bytes ≡ text.old.bytes ++ (decimal count ++ word.now) }
+    ensures len { array_string_len text.new ≤ array_string_len text.old + 10 + length word.now }
+{
+    text.push_str(Buffer::new().format(count));
+    text.push_str(word);
 }

@@ -3,17 +3,13 @@
 #![tactic(auto)]
 
 mod counts;
+mod streams;
 mod text;
 
-use history::READ_AT_MOST;
-use std::io::Read;
+use std::io;
 
-fn main(rt: HostRuntime) -> anyhow::Result<()> {
-    let mut file = Vec::new(rt.alloc());
-    rt.stdin().take(READ_AT_MOST).read_to_end(&mut file)?;
-    let printed = text::dump_text(rt.alloc(), &file)?;
-    rt.print(printed)?;
-    Ok(())
+fn main(rt: HostRuntime) -> io::Result<()> {
+    streams::dump_stream(rt.alloc(), rt.stdin(), &mut rt.stdout())
 }
 
 #[cfg(test)]

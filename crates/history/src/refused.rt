@@ -1,6 +1,8 @@
 ghost use Rattle.std.specs.Prelude.{◌≡◌, Some};
 ghost use Rattle.history.specs.Texts.{refused as refusal-of, refused_text};
 
+use arrayvec::ArrayString;
+use itoa::Buffer;
 use rules::JudgeFault;
 use std::fmt;
 
@@ -18,12 +20,29 @@ impl From<JudgeFault> for Refused {
     }
 }
 
+/// How many bytes a refusal's text has at most: two words, and the decimals of two numbers.
+pub const REFUSED_SIZE: usize = 42;
+
+impl Refused {
+    /// The refusal in words, as `REFUSED 23 AT 5`.
+    pub fn text(&self) -> ArrayString<REFUSED_SIZE>
+        ensures { result.bytes ≡ refused_text self.now }
+    {
+        let number = self.fault.number();
+        let place = self.fault.place();
+        let mut text = ArrayString::new();
+        text.push_str("REFUSED ");
+        text.push_str(Buffer::new().format(number));
+        text.push_str(" AT ");
+        text.push_str(Buffer::new().format(place));
+        text
+    }
+}
+
 impl fmt::Display for Refused {
     ghost output = { λ r. Some (refused_text r) };
 
     fn fmt<W: fmt::Write>(&self, f: &mut fmt::Formatter<W>) -> fmt::Result {
-        let number = self.fault.number();
-        let place = self.fault.place();
-        write!(f, "REFUSED {number} AT {place}")
+        f.pad(self.text().as_str())
     }
 }

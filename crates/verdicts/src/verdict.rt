@@ -1,6 +1,7 @@
-ghost use Rattle.std.specs.Prelude.{◌≡◌, Some};
+ghost use Rattle.std.specs.Prelude.{◌≡◌, Some, length};
 ghost use Rattle.verdicts.specs.Texts.{yes_or_no, verdict_text};
 
+use arrayvec::ArrayString;
 use std::fmt;
 
 // What the judge says of a history: of each property, whether it holds.
@@ -14,20 +15,36 @@ pub struct Verdict {
     pub wcf: bool,
 }
 
+/// How many bytes a verdict's text has.
+pub const VERDICT_SIZE: usize = 18;
+
+impl Verdict {
+    /// The verdict in letters, as `ACA=Y CONS=N WCF=Y`.
+    pub fn text(&self) -> ArrayString<VERDICT_SIZE>
+        ensures { result.bytes ≡ verdict_text self.now }
+    {
+        let mut text = ArrayString::new();
+        text.push_str("ACA=");
+        text.push_str(letter(self.aca));
+        text.push_str(" CONS=");
+        text.push_str(letter(self.cons));
+        text.push_str(" WCF=");
+        text.push_str(letter(self.wcf));
+        text
+    }
+}
+
 fn letter(holds: bool) -> &'static str
-    ensures { result.now ≡ yes_or_no holds }
+    ensures value { result.now ≡ yes_or_no holds }
+    ensures long { length result.now ≡ 1 }
 {
     if holds { "Y" } else { "N" }
 }
 
-// One line, as `ACA=Y CONS=N WCF=Y`.
 impl fmt::Display for Verdict {
     ghost output = { λ v. Some (verdict_text v) };
 
     fn fmt<W: fmt::Write>(&self, f: &mut fmt::Formatter<W>) -> fmt::Result {
-        let aca = letter(self.aca);
-        let cons = letter(self.cons);
-        let wcf = letter(self.wcf);
-        write!(f, "ACA={aca} CONS={cons} WCF={wcf}")
+        f.pad(self.text().as_str())
     }
 }

@@ -18,7 +18,6 @@ impl fmt::Display for Shown<'_> {
             Answer::SetUp(granted) => show_grant(*granted, f),
             Answer::Call(event) => show_call(*event, f),
             Answer::NoSlip => write!(f, "no slip"),
-            Answer::SlipsHeld => write!(f, "slips held"),
             Answer::Versions(_, Some(count)) => write!(f, "{count}"),
             Answer::Versions(_, None) | Answer::Stamp(_, _, None) => write!(f, "absent"),
             Answer::Stamp(_, _, Some(stamp)) => {

@@ -62,7 +62,6 @@ same_cards : (m : Meaning) (b : State) (a : Answer) → (shelf_after m b a).card
 same_cards m b (answers.SetUp r) = refl
 same_cards m b (answers.Call e) = call_cards m b e
 same_cards m b answers.NoSlip = refl
-same_cards m b answers.SlipsHeld = refl
 same_cards m b (answers.Versions x r) = refl
 same_cards m b (answers.Stamp x k r) = refl
 same_cards m b (answers.Journal ls) = refl
@@ -83,7 +82,6 @@ module _ (n : ℕ) (m : Meaning) (b d : State) (s : Sound m) (same : m.cards ≡
   law_of None (answers.Call e) w x f = (tt, tt)
   law_of (Some a) (answers.Call e) w x f = event_kept m b d e a s w x f
   law_of o answers.NoSlip w e f = (tt, as_before o f w)
-  law_of o answers.SlipsHeld w e f = (tt, as_before o f w)
   law_of None (answers.Versions x r) w e f = (tt, tt)
   law_of (Some a) (answers.Versions x r) w e f = (versions_told a m b s w x.0 r e, as_before (Some a) f w)
   law_of None (answers.Stamp x k r) w e f = (tt, tt)

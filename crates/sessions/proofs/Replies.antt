@@ -7,8 +7,9 @@ use Rattle.shelf.specs.Meaning.{Meaning}
 use Rattle.transactions.specs.declared.event.Event.TheVariants as events
 use Rattle.transactions.specs.declared.reading.Reading.{Reading}
 use Rattle.transactions.specs.declared.refusal.Refusal.{Refusal}
+use Rattle.transactions.specs.declared.refusal.Refusal.TheVariants as refusals
 use Rattle.transactions.specs.State.{State}
-use Rattle.transactions.specs.Calls.{set_up_answer, after_set_up, read_answer, after_read, draft_answer, after_draft}
+use Rattle.transactions.specs.Calls.{read_answer, after_read, draft_answer, after_draft}
 use Rattle.transactions.specs.Committing.{commit_answer, commit_shelf, commit_books, ends_by}
 use Rattle.books.specs.declared.slip.Slip.{Slip}
 use Rattle.books.specs.declared.slip.NotCommitted.{NotCommitted}
@@ -19,8 +20,8 @@ use Rattle.catalogue.proofs.Decided.{decided}
 use Rattle.sessions.specs.declared.answer.Answer.{Answer}
 use Rattle.sessions.specs.declared.answer.Answer.TheVariants as answers
 use Rattle.sessions.specs.declared.command.Command.TheVariants as commands
-use Rattle.sessions.specs.Slips.{holds, without, with_back, with_returned, slip_for, call_slips}
-use Rattle.sessions.specs.Scripts.{WithSlip, OfSetUp}
+use Rattle.sessions.specs.Slips.{holds, without, with_back, with_returned, slip_for, is_conflict, call_slips}
+use Rattle.sessions.specs.Scripts.{WithSlip}
 use Rattle.sessions.specs.Exactly.{Held, Replied}
 use Rattle.sessions.proofs.Holding.{none_taken}
 
@@ -32,14 +33,6 @@ in_hand xs t a P h p = subst (λ b. cond b P (a ≡ answers.NoSlip)) (sym h) p
 
 wanting : (xs : List Slip) (t : TxNo) (P : Type 0) → holds xs t.0 ≡ false → WithSlip xs t answers.NoSlip P
 wanting xs t P h = subst (λ b. cond b P (answers.NoSlip ≡ answers.NoSlip)) (sym h) refl
-
-pub set_up_replied : (m : Meaning) (b c : State) (xs : List Slip) (r : Result (Unit {0}) Refusal) → length xs ≡ 0 → r ≡ set_up_answer b m
-    → c ≡ after_set_up b m → Replied m (holding b xs) commands.SetUp (answers.SetUp r) m (holding c xs)
-set_up_replied m b c xs r e f g = record { answers = go xs e; exact = f; shelf = refl; books = g; slips = refl }
-  where
-    go : (ys : List Slip) → length ys ≡ 0 → OfSetUp ys (answers.SetUp r)
-    go [] q = (r, refl)
-    go (y ∷ ys) q = absurd (omega arith)
 
 pub read_replied : (m : Meaning) (b c : State) (xs : List Slip) (t s : TxNo) (x : CardNo) (r : Result Reading Refusal) → holds xs t.0 ≡ true
     → s ≡ t → r ≡ read_answer b m s.0 x.0 → c ≡ after_read b m s.0 x.0
@@ -74,11 +67,17 @@ pub no_abandon : (m : Meaning) (b : State) (xs ys : List Slip) (t : TxNo) → ho
 no_abandon m b xs ys t h e =
     record { answers = wanting xs t _ h; exact = tt; shelf = refl; books = refl; slips = e ∙ none_taken xs t.0 h }
 
+-- the program ends a transaction at the refusals that spend its slip
+ends_at_conflict : (f : Refusal) → ends_by f ≡ is_conflict f
+ends_at_conflict refusals.Conflict = refl
+ends_at_conflict _ = refl
+
 -- a slip comes back only where the transaction goes on, and it is the one handed in
 returned : (xs : List Slip) (t : TxNo) (s : Slip) (r : Result (Unit {0}) Refusal) → s.number ≡ t
     → with_returned (without xs t.0) (handed s r) ≡ call_slips xs (events.Commit t r)
 returned xs t s (Ok u) e = refl
-returned xs t s (Err f) e = go (ends_by f)
+returned xs t s (Err f) e =
+    go (ends_by f) ∙ ap (λ b. cond b (without xs t.0) (without xs t.0 ++ (slip_for t ∷ []))) (ends_at_conflict f)
   where
     go : (b : Bool) → with_back (without xs t.0) (cond b Conflict (HandedBack s f))
         ≡ cond b (without xs t.0) (without xs t.0 ++ (slip_for t ∷ []))

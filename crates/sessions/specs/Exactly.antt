@@ -38,7 +38,6 @@ abbrev pub Exact : Meaning → State → Answer → Type 0
 Exact m b (answers.SetUp r) = r ≡ set_up_answer b m
 Exact m b (answers.Call e) = ExactCall m b e
 Exact m b answers.NoSlip = Unit {0}
-Exact m b answers.SlipsHeld = Unit {0}
 Exact m b (answers.Versions x r) = r ≡ versions_of m x.0
 Exact m b (answers.Stamp x k r) = option_map entries r ≡ stamp_of m x.0 k.0
 Exact m b (answers.Journal ls) = vec_items ls ≡ b.journal
@@ -55,7 +54,6 @@ abbrev pub shelf_after : Meaning → State → Answer → Meaning
 shelf_after m b (answers.SetUp r) = m
 shelf_after m b (answers.Call e) = shelf_call m b e
 shelf_after m b answers.NoSlip = m
-shelf_after m b answers.SlipsHeld = m
 shelf_after m b (answers.Versions x r) = m
 shelf_after m b (answers.Stamp x k r) = m
 shelf_after m b (answers.Journal ls) = m
@@ -72,7 +70,6 @@ abbrev pub BooksAfter : Meaning → State → Answer → State → Type 0
 BooksAfter m b (answers.SetUp r) c = c ≡ after_set_up b m
 BooksAfter m b (answers.Call e) c = BooksCall m b e c
 BooksAfter m b answers.NoSlip c = c ≡ b
-BooksAfter m b answers.SlipsHeld c = c ≡ b
 BooksAfter m b (answers.Versions x r) c = c ≡ b
 BooksAfter m b (answers.Stamp x k r) c = c ≡ b
 BooksAfter m b (answers.Journal ls) c = c ≡ b

@@ -53,7 +53,6 @@ abbrev pub AnswerLaw : Option Account → Answer → Type 0
 AnswerLaw o (answers.SetUp r) = Unit {0}
 AnswerLaw o (answers.Call e) = On o (λ a. EventLaw a e)
 AnswerLaw o answers.NoSlip = Unit {0}
-AnswerLaw o answers.SlipsHeld = Unit {0}
 AnswerLaw o (answers.Versions x r) = On o (λ a. VersionsLaw a x.0 r)
 AnswerLaw o (answers.Stamp x k r) = On o (λ a. StampLaw a x.0 k.0 r)
 AnswerLaw o (answers.Journal ls) = On o (λ a. JournalLaw a (vec_items ls))

@@ -1,10 +1,12 @@
 -- What the answers to a script tell, and which answer is one to a command. Assumes nothing.
---     SoFar                      what is told so far: the account, from the last granted set-up on, and the slips in hand
+--     SoFar                      what is told so far: the account, from the last granted set-up on,
+--                                 and the slips in hand, also those of earlier accounts
 --     nothing_yet                 before the first command: no set-up was granted, and no slip is in hand
 --     told_by n p a               what is told after the answer a, on a shelf of n cards
 --     told n p rs                 what is told after the answers rs
---     AnswersTo xs c a           a is an answer to the command c, with the slips xs in hand: `NoSlip` exactly where the slip is wanting, `SlipsHeld`
---                                 exactly at a set-up with slips in hand, else what the call or the question that was asked for answered
+--     AnswersTo xs c a           a is an answer to the command c, with the slips xs in hand: `NoSlip`
+--                                 exactly where the slip is wanting, else what the call or the
+--                                 question that was asked for answered
 use Rattle.std.specs.Prelude.{◌≡◌, ℕ, Bool, true, false, cond, List, [], ◌∷◌, Some, None, Ok, Err, Option, Result}
 use Rattle.std.specs.Option.{option_map}
 use Rattle.stamps.specs.declared.stamp.Stamp.{Stamp}
@@ -34,7 +36,6 @@ account_by n o (answers.SetUp (Ok u)) = Some (fresh n)
 account_by n o (answers.SetUp (Err f)) = o
 account_by n o (answers.Call e) = option_map (λ a. after_event a e) o
 account_by n o answers.NoSlip = o
-account_by n o answers.SlipsHeld = o
 account_by n o (answers.Versions x r) = o
 account_by n o (answers.Stamp x k r) = o
 account_by n o (answers.Journal ls) = o
@@ -50,22 +51,17 @@ told n p (a ∷ rs) = told n (told_by n p a) rs
 abbrev pub WithSlip : List Slip → TxNo → Answer → Type 0 → Type 0
 WithSlip xs t a P = cond (holds xs t.0) P (a ≡ answers.NoSlip)
 
-abbrev pub OfSetUp : List Slip → Answer → Type 0
-OfSetUp [] a = (r : Result (Unit {0}) Refusal) × (a ≡ answers.SetUp r)
-OfSetUp (x ∷ xs) a = a ≡ answers.SlipsHeld
-
 -- the lines of the journal
 abbrev pub is_journal : Answer → Bool
 is_journal (answers.SetUp r) = false
 is_journal (answers.Call e) = false
 is_journal answers.NoSlip = false
-is_journal answers.SlipsHeld = false
 is_journal (answers.Versions x r) = false
 is_journal (answers.Stamp x k r) = false
 is_journal (answers.Journal ls) = true
 
 abbrev pub AnswersTo : List Slip → Command → Answer → Type 0
-AnswersTo xs commands.SetUp a = OfSetUp xs a
+AnswersTo xs commands.SetUp a = (r : Result (Unit {0}) Refusal) × (a ≡ answers.SetUp r)
 AnswersTo xs commands.Open a = (r : Result TxNo Refusal) × (a ≡ answers.Call (events.Open r))
 AnswersTo xs (commands.Read t x) a = WithSlip xs t a ((r : Result Reading Refusal) × (a ≡ answers.Call (events.Read t x r)))
 AnswersTo xs (commands.Draft t x v) a = WithSlip xs t a ((r : Result (Unit {0}) Refusal) × (a ≡ answers.Call (events.Draft t x v r)))

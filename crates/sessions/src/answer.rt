@@ -10,8 +10,6 @@ pub enum Answer {
     Call(Event),
     // The session holds no slip of the transaction that is named.
     NoSlip,
-    // Books are not set up while slips are held.
-    SlipsHeld,
     Versions(CardNo, Option<u32>),
     Stamp(CardNo, VersionNo, Option<Stamp>),
     Journal(Vec<Line>),

@@ -31,12 +31,10 @@ impl Session {
         }
     }
 
+    // The slips in hand stay, also where their account is over.
     fn set_up<S: Shelf>(&mut self, shelf: &S) -> Answer
         ensures { Replied (S.meaning shelf.now) (held self.old) commands.SetUp result (S.meaning shelf.now) (held self.new) }
     {
-        if !self.slips.is_empty() {
-            return Answer::SlipsHeld;
-        }
         Answer::SetUp(self.catalogue.set_up(shelf))
     }
 

@@ -8,14 +8,14 @@ use entries::{last_entry, last_with};
 use stamps::TxNo;
 use transactions::Refusal;
 
-// The slip of a transaction, to show.
+// The slip of a transaction, to show; of several with its number, the one that came last.
 pub(crate) fn slip_of(slips: &[Slip], number: TxNo) -> Option<&Slip>
     ensures { MatchOption result (holds slips.now number.0 ≡ false) (λ s. (holds slips.now number.0 ≡ true) × (s.now.number ≡ number)) }
 {
     last_entry(slips, number)
 }
 
-// The slip of a transaction, to hand in.
+// The slip of a transaction, to hand in; of several with its number, the one that came last.
 pub(crate) fn take_slip(slips: &mut Vec<Slip>, number: TxNo) -> Option<Slip>
     ensures taken { MatchOption result (holds slips.old.items number.0 ≡ false) (λ s. (holds slips.old.items number.0 ≡ true) × (s.number ≡ number)) }
     ensures rest { slips.new.items ≡ without slips.old.items number.0 }

@@ -1,6 +1,6 @@
 use crate::script::{EVENING, MORNING, OPENS};
 use catalogue::BooksMemory;
-use sessions::{Answer, Command, run};
+use sessions::{Answer, Command, SessionMemory, run};
 use shelf::Shelf;
 use shelves::{
     Drawers, PlacedShelf, PoolDrawer, PoolShelf, RowDrawers, RowShelf, Size, SplitShelf,
@@ -113,8 +113,9 @@ fn whole_day(heap: Global) -> Result<Vec<Command>, AllocError> {
 
 // The day goes as expected, and as many answers come as there are commands.
 fn goes<S: Shelf>(heap: Global, shelf: &mut S) -> Result<bool, AllocError> {
-    let memory = BooksMemory::reserve(heap, 16, 3, 100)?;
-    let answers = run(heap, memory, shelf, &whole_day(heap)?)?;
+    let books = BooksMemory::reserve(heap, 16, 3, 100)?;
+    let script = whole_day(heap)?;
+    let answers = run(SessionMemory::reserve(heap, books, &script)?, shelf);
     let mut right = answers.len() == EXPECTED.len();
     for (answer, expected) in answers.iter().zip(EXPECTED.iter()) {
         right = right && seen_in(answer) == *expected;

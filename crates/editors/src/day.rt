@@ -4,7 +4,7 @@ use crate::show::Shown;
 use catalogue::BooksMemory;
 use records::RECORD_SIZE;
 use rules::LARGEST_FILE;
-use sessions::{Answer, Command, FileFault, history_file, run};
+use sessions::{Answer, Command, FileMemory, SessionMemory, history_file, run};
 use shelves::Shelf;
 use std::alloc::{AllocError, Global};
 use std::{fs, io, slice};
@@ -22,10 +22,11 @@ pub(crate) fn day<S: Shelf + Drop>(
     let Some(size) = find_books(rt, &mut lines)? else {
         return Ok(());
     };
-    let memory = BooksMemory::reserve(rt.alloc(), size.places, cards, size.lines)?;
+    let books = BooksMemory::reserve(rt.alloc(), size.places, cards, size.lines)?;
     let lines = lines.as_slice();
     let script = script_of(rt.alloc(), lines)?;
-    let answers = run(rt.alloc(), memory, &mut shelf, &script)?;
+    let memory = SessionMemory::reserve(rt.alloc(), books, &script)?;
+    let answers = run(memory, &mut shelf);
     print_all(rt, lines, &answers, cards)
 }
 
@@ -95,9 +96,9 @@ fn save(rt: &HostRuntime, file: &str, answer: Option<&Answer>) -> Result<bool, A
     if lines.len() > MOST_LINES {
         return Ok(false);
     }
-    match history_file(rt.alloc(), lines) {
+    let memory = FileMemory::reserve(rt.alloc(), lines)?;
+    match history_file(memory) {
         Ok(bytes) => Ok(fs::write(rt, file, &bytes).is_ok()),
-        Err(FileFault::Line(_)) => Ok(false),
-        Err(FileFault::Memory(error)) => Err(error),
+        Err(_) => Ok(false),
     }
 }

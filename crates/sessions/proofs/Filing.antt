@@ -1,5 +1,5 @@
 -- A file that is made record by record.
-use Rattle.std.proofs.Common.{◌≡◌, ℕ, zero, suc, ◌+◌, ◌-◌, ◌*◌, ◌<◌, ◌≤◌, Bool, true, false, cond, not, ◌&&◌, eqb, List, [], ◌∷◌, ◌++◌, length, get_or, take, drop, is_some, is_ok, is_err, Some, None, Ok, Err, Option, Result, sym, refl, ap, ◌∙◌, subst, append_assoc, append-nil, arith}
+use Rattle.std.proofs.Common.{◌≡◌, ℕ, zero, suc, ◌+◌, ◌-◌, ◌*◌, ◌<◌, ◌≤◌, Bool, true, false, cond, eqb, List, [], ◌∷◌, ◌++◌, length, get_or, take, drop, is_ok, is_err, Some, None, Ok, Err, Option, Result, sym, refl, ap, ◌∙◌, subst, append_assoc, append-nil, arith}
 use Rattle.std.specs.List.{between, AllByRecursion as All}
 use Rattle.std.specs.Option.{option_or}
 use Rattle.std.proofs.lemmas.List.{take_at, take_all, take_more}
@@ -12,7 +12,7 @@ use Rattle.records.specs.declared.line.Line.{Line}
 use Rattle.records.specs.Format.{kind_of, read_as, fault_of, decoded, encoded, written, writes}
 use Rattle.transactions.specs.Journal.{InFile}
 use Rattle.transactions.proofs.Places.{none_some, some_same, ok_not_err}
-use Rattle.sessions.specs.Files.{all_good, file_of, Filed, first_fault}
+use Rattle.sessions.specs.Files.{file_of, first_fault, unless_fault, filed}
 
 -- a line's record reads back as the line
 abbrev pub ReadsBack : Line → Type 0
@@ -53,34 +53,30 @@ file_push : (ls : List Line) (l : Line) → file_of (ls ++ (l ∷ [])) ≡ file_
 file_push [] l = append-nil (encoded l)
 file_push (x ∷ ls) l = ap (λ zs. encoded x ++ zs) (file_push ls l) ∙ sym (append_assoc (encoded x) (file_of ls) (encoded l))
 
-good_push : (ls : List Line) (l : Line) → all_good ls ≡ true → fault_of l ≡ None → all_good (ls ++ (l ∷ [])) ≡ true
-good_push [] l g f = ap (λ o. not (is_some o) && true) f
-good_push (x ∷ ls) l g f = go (not (is_some (fault_of x))) g (λ h. good_push ls l h f)
+-- no line so far has a bad field
+fault_push : (ls : List Line) (l : Line) → first_fault ls ≡ None → first_fault (ls ++ (l ∷ [])) ≡ fault_of l
+fault_push [] l g = go (fault_of l)
   where
-    go : (b : Bool) → (b && all_good ls) ≡ true → (all_good ls ≡ true → all_good (ls ++ (l ∷ [])) ≡ true) → (b && all_good (ls ++ (l ∷ []))) ≡ true
-    go true h rest = rest h
-    go false h rest = h
-
--- one bad line
-pub bad_at : (ls : List Line) (i : ℕ) (d : Line) → i < length ls → is_some (fault_of (get_or ls i d)) ≡ true → all_good ls ≡ false
-bad_at [] i d lt b = absurd (omega arith)
-bad_at (x ∷ ls) zero d lt b = ap (λ t. not t && all_good ls) b
-bad_at (x ∷ ls) (suc i) d lt b = go (not (is_some (fault_of x))) (bad_at ls i d (omega arith) b)
+    go : (o : Option RecordFault) → option_or o None ≡ o
+    go None = refl
+    go (Some f) = refl
+fault_push (x ∷ ls) l g = go (fault_of x) g (λ h. fault_push ls l h)
   where
-    go : (t : Bool) → all_good ls ≡ false → (t && all_good ls) ≡ false
-    go true rest = rest
-    go false rest = refl
+    go : (o : Option RecordFault) → option_or o (first_fault ls) ≡ None → (first_fault ls ≡ None → first_fault (ls ++ (l ∷ [])) ≡ fault_of l)
+        → option_or o (first_fault (ls ++ (l ∷ []))) ≡ fault_of l
+    go None h rest = rest h
+    go (Some f) h rest = absurd (none_some (sym h))
 
 -- the first bad line
-pub first_at : (ls : List Line) (i : ℕ) (d : Line) (f : RecordFault) → i < length ls → all_good (take i ls) ≡ true → fault_of (get_or ls i d) ≡ Some f →
+pub first_at : (ls : List Line) (i : ℕ) (d : Line) (f : RecordFault) → i < length ls → first_fault (take i ls) ≡ None → fault_of (get_or ls i d) ≡ Some f →
     first_fault ls ≡ Some f
 first_at [] i d f lt good is = absurd (omega arith)
 first_at (x ∷ ls) zero d f lt good is = ap (λ o. option_or o (first_fault ls)) is
 first_at (x ∷ ls) (suc i) d f lt good is = go (fault_of x) good (λ h. first_at ls i d f (omega arith) h is)
   where
-    go : (o : Option RecordFault) → (not (is_some o) && all_good (take i ls)) ≡ true → (all_good (take i ls) ≡ true → first_fault ls ≡ Some f) → option_or o (first_fault ls) ≡ Some f
+    go : (o : Option RecordFault) → option_or o (first_fault (take i ls)) ≡ None → (first_fault (take i ls) ≡ None → first_fault ls ≡ Some f) → option_or o (first_fault ls) ≡ Some f
     go None h rest = rest h
-    go (Some g) h rest = let z : ◌≡◌ {A = ℕ} 0 1 = cc in absurd (omega arith)
+    go (Some g) h rest = absurd (none_some (sym h))
 
 -- what an answer of `encode` into a whole record says of the fields
 pub bad_field : (l : Line) (f : RecordFault) → Err f ≡ writes l 32 → fault_of l ≡ Some f
@@ -116,7 +112,7 @@ no_line = record {
 -- the file so far, of the lines ls
 pub record Made (ls : List Line) (bs : List ℕ) : Type 0 where
   pub bytes : bs ≡ file_of ls
-  pub good : all_good ls ≡ true
+  pub good : first_fault ls ≡ None
   pub back : All ReadsBack ls
 
 pub made_none : (ls : List Line) (bs : List ℕ) → bs ≡ [] → Made (take 0 ls) bs
@@ -128,11 +124,15 @@ made_more ls i d bs cs r lt m e h b q =
     subst (λ zs. Made zs cs) (sym (take_more ls i d lt))
     (record {
       bytes = q ∙ ap (λ zs. zs ++ encoded (get_or ls i d)) m.bytes ∙ sym (file_push (take i ls) (get_or ls i d));
-      good = good_push (take i ls) (get_or ls i d) m.good (no_fault (get_or ls i d) r e h);
+      good = fault_push (take i ls) (get_or ls i d) m.good ∙ no_fault (get_or ls i d) r e h;
       back = All-push ReadsBack (take i ls) (get_or ls i d) m.back b;
     })
 
-pub made_all : (ls : List Line) (i : ℕ) (bs : List ℕ) → length ls ≤ i → Made (take i ls) bs → Filed ls bs
-made_all ls i bs le m =
-    let h = subst (λ zs. Made zs bs) (take_all i ls le) m in
-    record { good = h.good; bytes = h.bytes; reads = subst (λ zs. InFile zs ls) (sym h.bytes) (in_file ls h.back) }
+pub made_all : (ls : List Line) (i : ℕ) (bs : List ℕ) → length ls ≤ i → Made (take i ls) bs → Made ls bs
+made_all ls i bs le m = subst (λ zs. Made zs bs) (take_all i ls le) m
+
+pub made_filed : (ls : List Line) (bs : List ℕ) → Made ls bs → Ok bs ≡ filed ls
+made_filed ls bs m = ap Ok m.bytes ∙ ap (λ o. unless_fault o (file_of ls)) (sym m.good)
+
+pub made_reads : (ls : List Line) (bs : List ℕ) → Made ls bs → InFile bs ls
+made_reads ls bs m = subst (λ zs. InFile zs ls) (sym m.bytes) (in_file ls m.back)

@@ -1,12 +1,12 @@
 -- A run, one command longer.
-use Rattle.std.proofs.Common.{◌≡◌, ℕ, ◌+◌, ◌<◌, ◌≤◌, List, [], ◌∷◌, ◌++◌, length, get_or, take, IfOk, Ok, Err, Result, sym, subst}
+use Rattle.std.proofs.Common.{◌≡◌, ℕ, ◌+◌, ◌<◌, ◌≤◌, List, [], ◌∷◌, ◌++◌, length, get_or, take, sym, subst}
 use Rattle.std.proofs.lemmas.List.{take_all, take_more}
 use Rattle.shelf.specs.Meaning.{Meaning}
 use Rattle.shelf.specs.Sound.{Sound}
 use Rattle.transactions.specs.State.{State}
 use Rattle.sessions.specs.declared.answer.Answer.{Answer}
 use Rattle.sessions.specs.declared.command.Command.{Command}
-use Rattle.sessions.specs.Exactly.{Held, Replied, Ran, DoneExactly}
+use Rattle.sessions.specs.Exactly.{Held, Replied, Ran}
 use Rattle.sessions.specs.Exactly.Ran.{begun, goes_on}
 
 pub ran_none : (m : Meaning) (h : Held) (cs : List Command) (rs : List Answer) → rs ≡ [] → h.slips ≡ [] → Ran m h.books (take 0 cs) rs m h
@@ -23,9 +23,3 @@ ran_more m₀ m n b₀ cs i rs rs' h k e a lt s r q p =
 pub ran_all : (m₀ m : Meaning) (b₀ : State) (cs : List Command) (i : ℕ) (rs : List Answer) (h : Held) → length cs ≤ i → Ran m₀ b₀ (take i cs) rs m h →
     Ran m₀ b₀ cs rs m h
 ran_all m₀ m b₀ cs i rs h le r = subst (λ zs. Ran m₀ b₀ zs rs m h) (take_all i cs le) r
-
--- and what a whole run promises
-pub all_done : {X Y : Type 0} (items : X → List Answer) (m n : Meaning) (b : State) (cs : List Command) (h : Held) (r : Result X Y) →
-    IfOk r (λ v. Ran m b cs (items v) n h) → IfOk r (λ v. DoneExactly m b cs (items v) n)
-all_done items m n b cs h (Ok v) ran = record { held = h; ran = ran }
-all_done items m n b cs h (Err e) ran = tt

@@ -1,5 +1,5 @@
 -- Every session is lawful, and what is told of it stands.
-use Rattle.std.proofs.Common.{◌≡◌, ℕ, List, [], ◌∷◌, ◌++◌, IfOk, Some, None, Ok, Err, Option, Result, sym, refl, ap, ◌∙◌, subst}
+use Rattle.std.proofs.Common.{◌≡◌, ℕ, List, [], ◌∷◌, ◌++◌, Some, None, Ok, Err, Option, Result, sym, refl, ap, ◌∙◌, subst}
 use Rattle.shelf.specs.Meaning.{Meaning}
 use Rattle.shelf.specs.Sound.{Sound}
 use Rattle.isolation.specs.Account.{Account, fresh, Draft}
@@ -132,8 +132,3 @@ module _ (m₀ : Meaning) (b₀ : State) where
       go : (o : Option Account) → On o (λ u. Watched u n h.held.books) → On o (Ends n)
       go None w = tt
       go (Some a) w = let u = upheld a n h.held.books w in record { shelf = u.shelf; stamps = u.stamps; isolated = u.isolated }
-
-  pub all_lawful : {X Y : Type 0} (items : X → List Answer) (cs : List Command) (n : Meaning) (r : Result X Y)
-      → IfOk r (λ v. DoneExactly m₀ b₀ cs (items v) n) → IfOk r (λ v. SessionLaw m₀ cs (items v) n)
-  all_lawful items cs n (Ok v) h = session_lawful cs (items v) n h
-  all_lawful items cs n (Err e) h = tt

@@ -4,3 +4,4 @@ pub mod Grown
 pub mod Filing
 pub mod Told
 pub mod Lawfully
+pub mod Rooms

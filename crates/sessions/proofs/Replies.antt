@@ -1,5 +1,5 @@
 -- What a session replies, from what the calls answered.
-use Rattle.std.proofs.Common.{◌≡◌, Bool, true, false, cond, List, [], ◌∷◌, ◌++◌, length, Ok, Err, Result, sym, refl, ap, ◌∙◌, subst, arith}
+use Rattle.std.proofs.Common.{◌≡◌, Bool, true, false, cond, List, [], ◌∷◌, ◌++◌, Ok, Err, Result, sym, refl, ap, ◌∙◌, subst}
 use Rattle.stamps.specs.declared.numbers.CardNo.{CardNo}
 use Rattle.stamps.specs.declared.numbers.TxNo.{TxNo}
 use Rattle.stamps.specs.declared.value.Value.{Value}

@@ -4,3 +4,5 @@ pub mod Laws
 pub mod Exactly
 pub mod Files
 pub mod Holding
+pub mod Memory
+pub mod Room

@@ -3,14 +3,14 @@
 
 pub mod answer;
 pub mod command;
-mod fault;
 mod file;
+mod memory;
 mod session;
 mod slips;
 mod whole;
 
 pub use answer::Answer;
 pub use command::Command;
-pub use fault::FileFault;
-pub use file::history_file;
+pub use file::{FileMemory, history_file};
+pub use memory::SessionMemory;
 pub use whole::run;

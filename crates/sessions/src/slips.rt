@@ -20,6 +20,7 @@ pub(crate) fn take_slip(slips: &mut Vec<Slip>, number: TxNo) -> Option<Slip>
     ensures taken { MatchOption result (holds slips.old.items number.0 ≡ false) (λ s. (holds slips.old.items number.0 ≡ true) × (s.number ≡ number)) }
     ensures rest { slips.new.items ≡ without slips.old.items number.0 }
     ensures room { OnSome result (vec_len slips.new < vec_capacity slips.new) }
+    ensures capacity { vec_capacity slips.new ≡ vec_capacity slips.old }
 {
     let place = last_with(slips.as_slice(), number)?;
     Some(slips.remove(place))
@@ -33,6 +34,7 @@ pub(crate) fn keep_returned(
     requires { vec_len slips.old < vec_capacity slips.old }
     ensures decided { result ≡ decision committed }
     ensures kept { slips.new.items ≡ with_returned slips.old.items committed }
+    ensures capacity { vec_capacity slips.new ≡ vec_capacity slips.old }
 {
     match committed {
         Ok(()) => Ok(()),

@@ -21,6 +21,7 @@ returns c =
       taken = (f.held, ap (λ (s : Slip). s.number) c.remove.ensures.value ∙ f.its);
       rest = c.remove.ensures.items ∙ ap (less xs) at;
       room = omega (arith, c.remove.ensures.len, c.remove.ensures.capacity, c.args.slips.now.ok.1);
+      capacity = c.remove.ensures.capacity;
     }
 
 pub returns-in_err-place-clause-taken : goal.returns-in_err-place-clause-taken

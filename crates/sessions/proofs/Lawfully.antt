@@ -20,7 +20,8 @@ use Rattle.sessions.specs.declared.answer.Answer.TheVariants as answers
 use Rattle.sessions.specs.declared.command.Command.{Command}
 use Rattle.sessions.specs.Slips.{slips_after}
 use Rattle.sessions.specs.Scripts.{SoFar, nothing_yet, account_by, told_by, told, AnswersTo}
-use Rattle.sessions.specs.Laws.{On, JournalLaw, AnswerLaw, LawfulSession, Ends, SessionLaw}
+use Rattle.sessions.specs.Laws.{On, JournalLaw, AnswerLaw, LawfulSession}
+use Rattle.sessions.specs.Ends.{Ends, SessionLaw}
 use Rattle.sessions.specs.Exactly.{ExactCall, Exact, shelf_call, shelf_after, BooksCall, BooksAfter, Held, Ran, DoneExactly}
 use Rattle.sessions.specs.Exactly.Ran.{begun, goes_on}
 use Rattle.sessions.proofs.Told.{versions_told, stamp_told, journal_told}

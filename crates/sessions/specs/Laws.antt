@@ -1,4 +1,5 @@
--- The law of a whole session, over the answers alone: no shelf, book or stamp is in it. Assumes nothing.
+-- The law of a session's answers, over the commands, the answers and the account that is folded from
+-- them: no shelf and no book is in it. Assumes nothing.
 --     On o P                      P holds of the account o, if there is one
 --     VersionsLaw a x r          r is how many versions the account has of card x, none where the card is not listed
 --     Vector a x k f              f is the dependence vector of version k of card x: it is part of a solution of the equations, and of every one
@@ -6,24 +7,19 @@
 --     JournalLaw a ls            the lines ls tell the account's commits, are a history file that obeys the rules, and the judge finds them clean
 --     AnswerLaw o a               the answer a is lawful, where o is the account so far
 --     LawfulSession n p cs rs    the answers rs, one to each of the commands cs, are lawful, each where those before it are told
---     Ends a m                    the shelf m in the end: it holds the account's versions, with their dependence vectors, and the account is isolated
---     SessionLaw m cs rs n       the answers rs to the script cs on the shelf m are lawful, and leave the shelf n
 use Rattle.std.specs.Prelude.{◌≡◌, ℕ, suc, ◌<◌, ◌≤◌, List, [], ◌∷◌, Some, None, vec_items, Option}
 use Rattle.stamps.specs.declared.stamp.Stamp.{Stamp}
 use Rattle.stamps.specs.Entries.{entries}
 use Rattle.records.specs.declared.line.Line.{Line}
-use Rattle.shelf.specs.Meaning.{Meaning}
 use Rattle.isolation.specs.Account.{Account}
-use Rattle.isolation.specs.Theorems.{Isolated}
 use Rattle.isolation.specs.Vectors.{Stamps, Vectors, Alike}
 use Rattle.transactions.specs.Journal.{FileRules, JudgedClean}
 use Rattle.transactions.specs.Journaled.{Journaled}
 use Rattle.transactions.specs.Run.{EventLaw}
-use Rattle.transactions.specs.Shelved.{Shelved, Stamped}
 use Rattle.sessions.specs.declared.answer.Answer.{Answer}
 use Rattle.sessions.specs.declared.answer.Answer.TheVariants as answers
 use Rattle.sessions.specs.declared.command.Command.{Command}
-use Rattle.sessions.specs.Scripts.{SoFar, nothing_yet, told_by, told, AnswersTo}
+use Rattle.sessions.specs.Scripts.{SoFar, told_by, AnswersTo}
 
 abbrev pub On : Option Account → (Account → Type 0) → Type 0
 On None P = Unit {0}
@@ -62,12 +58,3 @@ LawfulSession n p [] [] = Unit {0}
 LawfulSession n p [] (a ∷ rs) = ⊥
 LawfulSession n p (c ∷ cs) [] = ⊥
 LawfulSession n p (c ∷ cs) (a ∷ rs) = AnswersTo p.slips c a × AnswerLaw p.account a × LawfulSession n (told_by n p a) cs rs
-
-pub record Ends (m : Meaning) (a : Account) : Type 0 where
-  pub shelf : Shelved a m
-  pub stamps : Stamped a m
-  pub isolated : Isolated a
-
-pub record SessionLaw (m : Meaning) (cs : List Command) (rs : List Answer) (n : Meaning) : Type 0 where
-  pub lawful : LawfulSession m.cards nothing_yet cs rs
-  pub ends : On (told m.cards nothing_yet rs).account (Ends n)

@@ -1,6 +1,7 @@
 pub mod Slips
 pub mod Scripts
 pub mod Laws
+pub mod Ends
 pub mod Exactly
 pub mod Files
 pub mod Holding

@@ -1,9 +1,9 @@
 // A whole session.
 ghost use Rattle.std.specs.Prelude.{◌≡◌};
 ghost use Rattle.books.specs.States.{new_state};
+ghost use Rattle.sessions.specs.Ends.{SessionLaw};
 ghost use Rattle.sessions.specs.Exactly.{Ran, DoneExactly};
 ghost use Rattle.sessions.specs.Holding.{held};
-ghost use Rattle.sessions.specs.Laws.{SessionLaw};
 ghost use Rattle.sessions.specs.Room.{IsReady};
 
 use crate::answer::Answer;

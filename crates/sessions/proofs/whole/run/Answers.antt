@@ -2,7 +2,7 @@ use Rattle.std.proofs.Common.{vec_items, subst}
 use Rattle.books.specs.States.{new_state}
 use Rattle.sessions.specs.Exactly.{Held, DoneExactly}
 use Rattle.sessions.specs.Holding.{held}
-use Rattle.sessions.specs.Laws.{SessionLaw}
+use Rattle.sessions.specs.Ends.{SessionLaw}
 use Rattle.sessions.specs.Memory.{Readied}
 use Rattle.sessions.proofs.Lawfully.{session_lawful}
 use Rattle.sessions.proofs.whole.run.Goals as goal

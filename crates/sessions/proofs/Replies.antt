@@ -7,10 +7,10 @@ use Rattle.shelf.specs.Meaning.{Meaning}
 use Rattle.transactions.specs.declared.event.Event.TheVariants as events
 use Rattle.transactions.specs.declared.reading.Reading.{Reading}
 use Rattle.transactions.specs.declared.refusal.Refusal.{Refusal}
-use Rattle.transactions.specs.declared.refusal.Refusal.TheVariants as refusals
 use Rattle.transactions.specs.State.{State}
 use Rattle.transactions.specs.Calls.{read_answer, after_read, draft_answer, after_draft}
 use Rattle.transactions.specs.Committing.{commit_answer, commit_shelf, commit_books, ends_by}
+use Rattle.transactions.proofs.Elsewhere.{conflict_ends}
 use Rattle.books.specs.declared.slip.Slip.{Slip}
 use Rattle.books.specs.declared.slip.NotCommitted.{NotCommitted}
 use Rattle.books.specs.declared.slip.NotCommitted.TheVariants.{HandedBack, Conflict}
@@ -20,7 +20,7 @@ use Rattle.catalogue.proofs.Decided.{decided}
 use Rattle.sessions.specs.declared.answer.Answer.{Answer}
 use Rattle.sessions.specs.declared.answer.Answer.TheVariants as answers
 use Rattle.sessions.specs.declared.command.Command.TheVariants as commands
-use Rattle.sessions.specs.Slips.{holds, without, with_back, with_returned, slip_for, is_conflict, call_slips}
+use Rattle.sessions.specs.Slips.{holds, without, with_back, with_returned, slip_for, call_slips}
 use Rattle.sessions.specs.Scripts.{WithSlip}
 use Rattle.sessions.specs.Exactly.{Held, Replied}
 use Rattle.sessions.proofs.Holding.{none_taken}
@@ -67,17 +67,12 @@ pub no_abandon : (m : Meaning) (b : State) (xs ys : List Slip) (t : TxNo) → ho
 no_abandon m b xs ys t h e =
     record { answers = wanting xs t _ h; exact = tt; shelf = refl; books = refl; slips = e ∙ none_taken xs t.0 h }
 
--- the program ends a transaction at the refusals that spend its slip
-ends_at_conflict : (f : Refusal) → ends_by f ≡ is_conflict f
-ends_at_conflict refusals.Conflict = refl
-ends_at_conflict _ = refl
-
 -- a slip comes back only where the transaction goes on, and it is the one handed in
 returned : (xs : List Slip) (t : TxNo) (s : Slip) (r : Result (Unit {0}) Refusal) → s.number ≡ t
     → with_returned (without xs t.0) (handed s r) ≡ call_slips xs (events.Commit t r)
 returned xs t s (Ok u) e = refl
 returned xs t s (Err f) e =
-    go (ends_by f) ∙ ap (λ b. cond b (without xs t.0) (without xs t.0 ++ (slip_for t ∷ []))) (ends_at_conflict f)
+    go (ends_by f) ∙ ap (λ b. cond b (without xs t.0) (without xs t.0 ++ (slip_for t ∷ []))) (conflict_ends f)
   where
     go : (b : Bool) → with_back (without xs t.0) (cond b Conflict (HandedBack s f))
         ≡ cond b (without xs t.0) (without xs t.0 ++ (slip_for t ∷ []))

@@ -14,6 +14,7 @@ use Rattle.transactions.specs.declared.refusal.Refusal.{Refusal}
 use Rattle.transactions.specs.State.{Open, State, last_at, held as opened}
 use Rattle.transactions.specs.Calls.{set_up_answer, emptied, open_answer, Opens, read_answer, read_entered, draft_answer, if_granted, after_end}
 use Rattle.transactions.specs.Committing.{commit_answer, books_after, ends_by}
+use Rattle.transactions.specs.Kept.{is_conflict}
 use Rattle.stamps.specs.declared.numbers.TxNo.{TxNo}
 use Rattle.books.specs.declared.slip.Slip.{Slip}
 use Rattle.entries.proofs.Last.{last_at_holds}
@@ -21,7 +22,7 @@ use Rattle.sessions.specs.declared.answer.Answer.{Answer}
 use Rattle.sessions.specs.declared.answer.Answer.TheVariants as answers
 use Rattle.sessions.specs.declared.command.Command.{Command}
 use Rattle.sessions.specs.declared.session.Session.{Session}
-use Rattle.sessions.specs.Slips.{is_for, less, without, slip_for, is_conflict, slips_after}
+use Rattle.sessions.specs.Slips.{is_for, less, without, slip_for, slips_after}
 use Rattle.sessions.specs.Exactly.{BooksCall, BooksAfter, Replied}
 use Rattle.sessions.specs.Holding.{held}
 use Rattle.sessions.specs.Room.{asks_journal, IsEmptyFor, HasRoom, JournalsLeft, RoomLeft}

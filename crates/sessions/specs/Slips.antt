@@ -4,18 +4,17 @@
 --     holds xs t                  one of the slips xs has the number t
 --     without xs t                the slips xs, less the last with the number t
 --     with_returned xs q          the slips xs, with the one that a commit, answered q, hands back
---     is_conflict f               the refusal f is a conflict
 --     call_slips xs e             the slips in hand after the call e: a granted open gives one, a
 --                                 commit and an abandon take one; a commit that is refused hands it
 --                                 back, but for a conflict, which spends it
 --     slips_after xs a            the slips in hand after the answer a
-use Rattle.std.specs.Prelude.{ℕ, Bool, true, false, cond, List, [], ◌∷◌, ◌++◌, Some, None, Ok, Err, Option, Result, ◌==◌}
+use Rattle.std.specs.Prelude.{ℕ, Bool, cond, List, [], ◌∷◌, ◌++◌, Some, None, Ok, Err, Option, Result, ◌==◌}
 use Rattle.std.specs.List.{remove}
 use Rattle.stamps.specs.declared.numbers.TxNo.{TxNo}
 use Rattle.transactions.specs.declared.event.Event.{Event}
 use Rattle.transactions.specs.declared.event.Event.TheVariants as events
 use Rattle.transactions.specs.declared.refusal.Refusal.{Refusal}
-use Rattle.transactions.specs.declared.refusal.Refusal.TheVariants as refusals
+use Rattle.transactions.specs.Kept.{is_conflict}
 use Rattle.transactions.specs.State.{last_at}
 use Rattle.books.specs.declared.slip.Slip.{Slip}
 use Rattle.books.specs.declared.slip.NotCommitted.{NotCommitted}
@@ -47,10 +46,6 @@ with_back xs Conflict = xs
 abbrev pub with_returned : List Slip → Result (Unit {0}) NotCommitted → List Slip
 with_returned xs (Ok u) = xs
 with_returned xs (Err n) = with_back xs n
-
-abbrev pub is_conflict : Refusal → Bool
-is_conflict refusals.Conflict = true
-is_conflict _ = false
 
 abbrev pub call_slips : List Slip → Event → List Slip
 call_slips xs (events.Open (Ok t)) = xs ++ (slip_for t ∷ [])

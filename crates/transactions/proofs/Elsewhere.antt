@@ -22,20 +22,8 @@ err_same e = cc
 
 -- the program's table and the account's own words
 pub conflict_ends : (f : Refusal) → ends_by f ≡ is_conflict f
-conflict_ends refusals.NoCards = refl
-conflict_ends refusals.Narrow = refl
-conflict_ends refusals.NotFresh = refl
-conflict_ends refusals.ShortBooks = refl
-conflict_ends refusals.NotOpen = refl
-conflict_ends refusals.NoCard = refl
-conflict_ends refusals.AllOpen = refl
-conflict_ends refusals.NumbersOut = refl
-conflict_ends refusals.Unread = refl
-conflict_ends refusals.DraftsOut = refl
 conflict_ends refusals.Conflict = refl
-conflict_ends refusals.NoPlace = refl
-conflict_ends refusals.JournalFull = refl
-conflict_ends refusals.OtherShelf = refl
+conflict_ends _ = refl
 
 pub refused_set_up : (n : Meaning) (b : State) (f : Refusal) → set_up_answer b n ≡ Err f → after_set_up b n ≡ b
 refused_set_up n b f e = ap (λ r. if_granted r (emptied b n) b) e

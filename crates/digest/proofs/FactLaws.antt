@@ -8,7 +8,7 @@ use Rattle.records.specs.declared.kind.Kind.TheVariants.{Read, Writ, Done, Gone}
 use Rattle.records.specs.declared.line.Line.{Line}
 use Rattle.digest.specs.declared.entry.Entry.{Entry}
 use Rattle.rules.specs.Rules.{is_writ, some, told, ends, in_place, kind_in_place}
-use Rattle.rules.proofs.PlaceLaws.{some_finds, some_holds}
+use Rattle.rules.proofs.SomeLaws.{some_finds, some_holds}
 use Rattle.digest.specs.Entries.{at, wrote, version_in, version_of, entry_of, Sound}
 use Rattle.digest.specs.Told.{Told}
 use Rattle.digest.proofs.Snoc.{length_snoc, nth_inside, nth_below, nth_snoc}

@@ -6,7 +6,7 @@ use Rattle.std.proofs.lemmas.Option.{none-some, same_Some}
 use Rattle.records.specs.declared.line.Line.{Line}
 use Rattle.rules.specs.Rules.{some, ends, unended}
 use Rattle.rules.specs.Lines.{At, Ends, AllEnd, FirstUnended}
-use Rattle.rules.proofs.PlaceLaws.{some_ends}
+use Rattle.rules.proofs.SomeLaws.{some_ends}
 
 -- what the search finds in the lines ls, which stand from place i on
 pub record Open (ls all : List Line) (i p : ℕ) : Type 0 where

@@ -9,7 +9,7 @@ use Rattle.records.specs.declared.fault.RecordFault.TheVariants as faults
 use Rattle.records.specs.Format.{good_transaction, good_card, good_writer, good_words, fault_of}
 use Rattle.shelf.specs.Meaning.{Meaning}
 use Rattle.rules.specs.Rules.{some, is_read, is_writ, is_end, told, ends, kind_in_place, in_place}
-use Rattle.rules.proofs.PlaceLaws.{some_holds}
+use Rattle.rules.proofs.SomeLaws.{some_holds}
 use Rattle.verdicts.specs.Verdicts.{WritAt}
 use Rattle.isolation.specs.Account.{has_read, drafted}
 use Rattle.transactions.specs.State.{Open}

@@ -2,6 +2,7 @@
 use Rattle.std.proofs.Common.{◌≡◌, ℕ, zero, suc, ◌+◌, ◌<◌, Bool, true, false, cond, ◌⊎◌, List, [], ◌∷◌, ◌++◌, length, set, replicate, Some, None, Ok, Err, Option, sym, refl, ap, ◌∙◌, subst, inl, inr, arith}
 use Rattle.std.specs.List.{slice_get}
 use Rattle.std.proofs.lemmas.Bool.{cases_Bool, cond-true, cond-false}
+pub use Rattle.rules.proofs.Snoc.{nth_front}
 use Rattle.transactions.specs.State.{last_from, last_at}
 
 pub none_some : {X : Type 0} {x : X} → None ≡ Some x → ⊥
@@ -39,11 +40,6 @@ pub nth_replicate : {X : Type 0} (n i : ℕ) (v x : X) → slice_get (replicate 
 nth_replicate zero i v x e = absurd (none_some e)
 nth_replicate (suc n) zero v x e = some_same e
 nth_replicate (suc n) (suc i) v x e = nth_replicate n i v x e
-
-pub nth_front : {X : Type 0} (xs ys : List X) (i : ℕ) → i < length xs → slice_get (xs ++ ys) i ≡ slice_get xs i
-nth_front [] ys i lt = absurd (omega arith)
-nth_front (x ∷ xs) ys zero lt = refl
-nth_front (x ∷ xs) ys (suc i) lt = nth_front xs ys i (omega arith)
 
 pub nth_behind : {X : Type 0} (xs ys : List X) (i : ℕ) → slice_get (xs ++ ys) (length xs + i) ≡ slice_get ys i
 nth_behind [] ys i = ap (slice_get ys) (omega arith)

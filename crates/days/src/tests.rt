@@ -4,6 +4,7 @@ use sessions::{Answer, Command, SessionMemory, run};
 use shelf::Shelf;
 use shelves::{
     Drawers, PlacedShelf, PoolDrawer, PoolShelf, RowDrawers, RowShelf, Size, SplitShelf,
+    reserved_shelf,
 };
 use stamps::{CardNo, Stamp};
 use std::alloc::{AllocError, Global};
@@ -123,15 +124,14 @@ fn goes<S: Shelf>(heap: Global, shelf: &mut S) -> Result<bool, AllocError> {
     Ok(right)
 }
 
-// A shelf of so many cards, with these places in each drawer and three counts in a stamp. Reserve, then new, as in workloads and the shelves' tests: one function for the three would be a crate, or a call of the store more, for two lines.
+// A shelf of so many cards, with these places in each drawer and three counts in a stamp.
 fn placed<D: Drawers>(heap: Global, cards: u32, places: u32) -> Result<PlacedShelf<D>, AllocError> {
     let size = Size {
         cards,
         width: 3,
         places,
     };
-    let memory = D::reserve(heap, cards, places)?;
-    Ok(PlacedShelf::new(memory, size))
+    Ok(reserved_shelf(heap, size)?.shelf)
 }
 
 fn row(heap: Global, cards: u32) -> Result<RowShelf, AllocError> {

@@ -6,9 +6,12 @@
 --     all_one a b             all cards are in one drawer
 --     within n m              n is from 1 to m
 --     size_fits m s           the cards and the width are from 1 to 256, and the places from 1 to m
-use Rattle.std.specs.Prelude.{ℕ, Bool, true, false, cond, ◌&&◌, [], ◌∷◌, ◌==◌, nat_le, nat_lt}
+--     fit_told b              what is told of a size: nothing where it fits (b), else that it does not
+use Rattle.std.specs.Prelude.{ℕ, Bool, true, false, cond, ◌&&◌, [], ◌∷◌, ◌==◌, nat_le, nat_lt, Ok, Err, Result}
 use Rattle.stamps.specs.Counts.{room}
 use Rattle.shelf.specs.Meaning.{Meaning, first_version}
+use Rattle.shelf.specs.declared.refusal.CheckRefusal.{CheckRefusal}
+use Rattle.shelf.specs.declared.refusal.CheckRefusal.TheVariants.{NoFit}
 use Rattle.shelf.specs.declared.size.Size.{Size}
 
 abbrev pub no_cards : Meaning
@@ -38,3 +41,6 @@ within n m = nat_le 1 n && nat_le n m
 
 abbrev pub size_fits : ℕ → Size → Bool
 size_fits m s = within s.cards room && (within s.width room && within s.places m)
+
+abbrev pub fit_told : Bool → Result (Unit {0}) CheckRefusal
+fit_told b = cond b (Ok tt) (Err NoFit)

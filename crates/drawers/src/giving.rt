@@ -1,5 +1,5 @@
 // How places are given to cards.
-ghost use Rattle.std.specs.Prelude.{◌≡◌, ℕ, ◌<◌, ◌≤◌, Bool, true, IfOk, cond, Some};
+ghost use Rattle.std.specs.Prelude.{◌≡◌, ℕ, ◌<◌, ◌≤◌, Bool, true, false, IfOk, cond, Some};
 ghost use Rattle.shelf.specs.declared.size.Size.{Size};
 ghost use Rattle.shelf.specs.Meaning.{Meaning, version_at, newest};
 ghost use Rattle.shelf.specs.Sound.{Sound};
@@ -39,6 +39,10 @@ pub trait Drawers {
     // Memory for this many cards and, in each drawer, this many places, or that it is wanting.
     fn reserve(heap: Global, cards: u32, places: u32) -> Result<Self::Memory, AllocError>
         ensures { IfOk result (λ m. (size : Size) → size.cards ≡ cards → size.places ≡ places → fits m size ≡ size_fits MOST_PLACES size) };
+
+    /// Memory that no size fits into: none is asked for.
+    fn no_memory(alloc: Global) -> Self::Memory
+        ensures { (size : Size) → fits result size ≡ false };
 
     // Whether drawers of this size fit into the memory.
     fn fits(memory: &Self::Memory, size: Size) -> bool

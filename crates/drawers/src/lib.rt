@@ -4,9 +4,11 @@
 mod giving;
 mod placed;
 mod places;
+mod reserved;
 mod stamping;
 
 pub use giving::{Drawers, is_within};
 pub use placed::PlacedShelf;
 pub use places::{Places, Written};
+pub use reserved::{Fitted, reserved_shelf};
 pub use stamping::stamp_from;

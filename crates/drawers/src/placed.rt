@@ -5,6 +5,7 @@ ghost use Rattle.stamps.specs.Counts.{countable, counts_at, cut};
 ghost use Rattle.stamps.specs.Entries.{entries};
 ghost use Rattle.shelf.specs.declared.refusal.CheckRefusal.TheVariants.{NoFit};
 ghost use Rattle.shelf.specs.Meaning.{version_at};
+ghost use Rattle.drawers.specs.Fresh.{no_cards};
 ghost use Rattle.drawers.specs.Places.{version_kept};
 
 use crate::giving::Drawers;
@@ -12,6 +13,7 @@ use crate::places::Written;
 use crate::stamping::stamp_from;
 use shelf::{CheckRefusal, PutRefusal, Shelf, Size};
 use stamps::{CardNo, Stamp, TxNo, Value, VersionNo};
+use std::alloc::Global;
 
 // The versions of a card lie in the places that its drawer gives it; version 0 lies in none.
 #[derive(Drop)]
@@ -41,6 +43,15 @@ impl<D: Drawers> PlacedShelf<D> {
             D::none(memory)
         };
         PlacedShelf { drawers }
+    }
+
+    /// A shelf of no cards; no memory is asked for.
+    pub fn without_cards(alloc: Global) -> PlacedShelf<D>
+        ensures { ⟦<PlacedShelf<D> as Shelf>⟧.meaning result ≡ no_cards }
+    {
+        PlacedShelf {
+            drawers: D::none(D::no_memory(alloc)),
+        }
     }
 
     fn has(&self, card: CardNo) -> bool

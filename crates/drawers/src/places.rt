@@ -34,6 +34,15 @@ impl Places {
         Ok(Places { written })
     }
 
+    /// No place: no memory is asked for.
+    pub fn empty(alloc: Global) -> Places
+        ensures { vec_len result.written ≡ 0 }
+    {
+        Places {
+            written: Vec::new(alloc),
+        }
+    }
+
     // Writes a version into a place; nothing is written where there is no such place.
     pub fn write(&mut self, place: usize, written: Written)
         ensures { Wrote self.old self.new place written }

@@ -1,20 +1,8 @@
 // The lines of a script, and how they are read.
-use scripts::size_of;
+use scripts::{Make, size_of};
 use sessions::Command;
-use shelves::Size;
 use stamps::{CardNo, TxNo, Value, VersionNo};
 use std::alloc::{AllocError, Global};
-
-// Which shelf to make.
-#[derive(Clone, Copy)]
-pub(crate) enum Make {
-    Row(Size),
-    Pool(Size),
-    // A row and a pool.
-    Split(Size, Size),
-    // A split of a row and a pool, and a row.
-    Nested(Size, Size, Size),
-}
 
 // How many open places and journal lines the books are to have.
 #[derive(Clone, Copy)]

@@ -1,33 +1,26 @@
 // What a session answers to each command.
-use crate::command::{Command, Entry, Make, Question};
-use scripts::{Counts, Fitted, placed_shelf};
-use shelves::{
-    Drawers, PlacedShelf, PoolDrawer, PoolShelf, PutRefusal, RowDrawers, RowShelf, Shelf, Size,
-    SplitShelf,
-};
+ghost use Rattle.std.specs.Prelude.{IfOk};
+ghost use Rattle.office.specs.Working.{After};
+
+use crate::command::{Command, Entry, Question};
+use scripts::{Counts, Made, make_shelf};
+use shelves::{Fitted, PutRefusal, Shelf};
 use stamps::{CardNo, VersionNo};
-use std::alloc::{AllocError, Global};
 use std::{fmt, io};
 
-// The shelf that a session works with.
-#[derive(Drop)]
-pub enum Held {
-    Row(RowShelf),
-    Pool(PoolShelf),
-    Split(SplitShelf<RowShelf, PoolShelf>),
-}
-
-// Carries out a command, and prints its line with the answer.
+// Carries out a command on the shelf in hand, if there is one, and prints its line with the answer.
 pub fn answer(
     rt: &HostRuntime,
-    held: &mut Option<Held>,
+    held: &mut Option<Made>,
     line: &str,
     command: Command,
-) -> io::Result<()> {
+) -> io::Result<()>
+    ensures { IfOk result (λ _. After command held.new) }
+{
     print!(rt; "{line} = ")?;
     match command {
         Command::Shelf(make) => {
-            let Fitted { shelf, fits } = made(rt.alloc(), make)?;
+            let Fitted { shelf, fits } = make_shelf(rt.alloc(), make)?;
             *held = Some(shelf);
             match fits {
                 Ok(()) => println!(rt; "ok"),
@@ -37,30 +30,12 @@ pub fn answer(
         // One call for each make, since each arm has a shelf of another type.
         Command::Ask(question) => match held {
             None => println!(rt; "no shelf"),
-            Some(Held::Row(shelf)) => ask(rt, shelf, question),
-            Some(Held::Pool(shelf)) => ask(rt, shelf, question),
-            Some(Held::Split(shelf)) => ask(rt, shelf, question),
+            Some(Made::Row(shelf)) => ask(rt, shelf, question),
+            Some(Made::Pool(shelf)) => ask(rt, shelf, question),
+            Some(Made::Split(shelf)) => ask(rt, shelf, question),
+            Some(Made::Nested(shelf)) => ask(rt, shelf, question),
         },
     }
-}
-
-// Makes a shelf, one of no cards where the size does not fit.
-fn made(heap: Global, make: Make) -> Result<Fitted<Held>, AllocError> {
-    Ok(match make {
-        Make::Row(size) => placed::<RowDrawers>(heap, size)?.map(Held::Row),
-        Make::Pool(size) => placed::<PoolDrawer>(heap, size)?.map(Held::Pool),
-        Make::Split(left, right) => {
-            let left = placed::<RowDrawers>(heap, left)?;
-            let right = placed::<PoolDrawer>(heap, right)?;
-            left.split(right).map(Held::Split)
-        }
-    })
-}
-
-// With memory for any size: a size that does not fit is told by the shelf.
-fn placed<D: Drawers>(heap: Global, size: Size) -> Result<Fitted<PlacedShelf<D>>, AllocError> {
-    let memory = D::reserve(heap, size.cards, size.places)?;
-    Ok(placed_shelf(memory, size))
 }
 
 // Prints what a shelf answers.

@@ -1,18 +1,8 @@
 // The commands of a session, and how a line is read.
-use scripts::size_of;
-use shelves::Size;
+use scripts::{Make, size_of};
 use stamps::{CardNo, TxNo, Value, VersionNo};
 use std::alloc::{AllocError, Global};
 use std::num::ParseIntError;
-
-// Which shelf to make. The editors' program has one make more, so this enum is not shared with it.
-#[derive(Clone, Copy)]
-pub enum Make {
-    Row(Size),
-    Pool(Size),
-    // A row on the left, a pool on the right.
-    Split(Size, Size),
-}
 
 // A version to be put.
 #[derive(Drop)]
@@ -80,6 +70,27 @@ fn make_of(words: &[&str]) -> Option<Make> {
         ["split", "row", c, w, p, "pool", d, v, q, ..] => {
             Some(Make::Split(size_of([c, w, p])?, size_of([d, v, q])?))
         }
+        [
+            "split",
+            "split",
+            "row",
+            c,
+            w,
+            p,
+            "pool",
+            d,
+            v,
+            q,
+            "row",
+            e,
+            u,
+            r,
+            ..
+        ] => Some(Make::Nested(
+            size_of([c, w, p])?,
+            size_of([d, v, q])?,
+            size_of([e, u, r])?,
+        )),
         _ => None,
     }
 }

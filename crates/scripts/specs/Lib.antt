@@ -1,2 +1,4 @@
+pub mod Makes
+pub mod Shelves
 pub mod Text
 pub mod Words

@@ -2,9 +2,9 @@
 #![tactic(auto)]
 
 pub mod counts;
-pub mod fitting;
+pub mod makes;
 pub mod sizes;
 
 pub use counts::Counts;
-pub use fitting::{Fitted, placed_shelf};
+pub use makes::{Made, Make, make_shelf};
 pub use sizes::size_of;

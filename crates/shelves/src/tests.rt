@@ -1,5 +1,7 @@
 // One table of steps over every make of shelf.
-use crate::{Drawers, PlacedShelf, PoolShelf, PutRefusal, RowShelf, Shelf, Size, SplitShelf};
+use crate::{
+    Drawers, PlacedShelf, PoolShelf, PutRefusal, RowShelf, Shelf, Size, SplitShelf, reserved_shelf,
+};
 use stamps::{CardNo, TxNo, Value, VersionNo};
 use std::alloc::{AllocError, Global};
 use std::process::Abort;
@@ -12,8 +14,7 @@ fn made<D: Drawers>(heap: Global, places: u32) -> Result<PlacedShelf<D>, AllocEr
         width: 3,
         places,
     };
-    let memory = D::reserve(heap, size.cards, size.places)?;
-    Ok(PlacedShelf::new(memory, size))
+    Ok(reserved_shelf(heap, size)?.shelf)
 }
 
 fn row(heap: Global) -> Result<RowShelf, AllocError> {

@@ -1,7 +1,7 @@
 // Work on every make of shelf.
 
 use shelf::Shelf;
-use shelves::{Drawers, PlacedShelf, PoolDrawer, Size, SplitShelf};
+use shelves::{Drawers, PoolDrawer, Size, SplitShelf, reserved_shelf};
 use std::alloc::{AllocError, Global};
 
 // A piece of work, done on a shelf of the size that it asks for.
@@ -17,7 +17,7 @@ pub(crate) fn on_drawers<D: Drawers + Drop, W: Work>(
     heap: Global,
     work: &W,
 ) -> Result<u64, AllocError> {
-    let mut shelf = placed::<D>(heap, work.size())?;
+    let mut shelf = reserved_shelf::<D>(heap, work.size())?.shelf;
     work.work_on(heap, &mut shelf)
 }
 
@@ -29,13 +29,7 @@ pub(crate) fn on_split<W: Work>(heap: Global, work: &W) -> Result<u64, AllocErro
         width: size.width,
         places: size.places / 2,
     };
-    let left = placed::<PoolDrawer>(heap, half)?;
-    let right = placed::<PoolDrawer>(heap, half)?;
+    let left = reserved_shelf::<PoolDrawer>(heap, half)?.shelf;
+    let right = reserved_shelf::<PoolDrawer>(heap, half)?.shelf;
     work.work_on(heap, &mut SplitShelf::new(left, right))
-}
-
-// Reserve, then new, as the days' tests and the shelves' tests have it too: one function for the three would be a crate, or a call of the store more, for two lines.
-fn placed<D: Drawers>(heap: Global, size: Size) -> Result<PlacedShelf<D>, AllocError> {
-    let memory = D::reserve(heap, size.cards, size.places)?;
-    Ok(PlacedShelf::new(memory, size))
 }

@@ -32,9 +32,13 @@ impl Drawers for PoolDrawer {
 
     ghost made_if_fits = { λ m size. refl };
 
-    // This and the next four are alike in rows and pools: each is one line that names a function or a field of its own type, so one text for both would be a macro or a trait more.
+    // This and the next five are alike in rows and pools: each is one line that names a function or a field of its own type, so one text for both would be a macro or a trait more.
     fn reserve(heap: Global, cards: u32, places: u32) -> Result<PoolMemory, AllocError> {
         PoolMemory::reserve(heap, cards, places)
+    }
+
+    fn no_memory(alloc: Global) -> PoolMemory {
+        PoolMemory::empty(alloc)
     }
 
     fn fits(memory: &PoolMemory, size: Size) -> bool {

@@ -36,6 +36,17 @@ impl PoolMemory {
         })
     }
 
+    /// Memory for no card: none is asked for.
+    pub(crate) fn empty(alloc: Global) -> PoolMemory
+        ensures { vec_len result.newest ≡ 0 }
+    {
+        PoolMemory {
+            newest: Vec::new(alloc),
+            chains: Vec::new(alloc),
+            places: Places::empty(alloc),
+        }
+    }
+
     // Whether a pool of this size fits: 1 to 256 cards, stamps of 1 to 256 counts and 1 to 65,535 places.
     pub(crate) fn fits(&self, size: Size) -> bool
         ensures { result ≡ pool_fits self.now size }

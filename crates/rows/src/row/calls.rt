@@ -18,6 +18,16 @@ impl RowMemory {
         Ok(RowMemory { used, places })
     }
 
+    /// Memory for no card: none is asked for.
+    pub(crate) fn empty(alloc: Global) -> RowMemory
+        ensures { vec_len result.used ≡ 0 }
+    {
+        RowMemory {
+            used: Vec::new(alloc),
+            places: Places::empty(alloc),
+        }
+    }
+
     // Whether drawers of this size fit: 1 to 256 cards, stamps of 1 to 256 counts and drawers of 1 to 4,095 places.
     pub(crate) fn fits(&self, size: Size) -> bool
         ensures { result ≡ row_fits self.now size }

@@ -2,6 +2,7 @@
 #![tactic(auto)]
 
 pub mod refusal;
+mod lent;
 mod shelf;
 mod size;
 

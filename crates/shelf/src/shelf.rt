@@ -10,6 +10,9 @@ ghost use Rattle.shelf.specs.Putting.{put_answer, after_put};
 use crate::refusal::PutRefusal;
 use stamps::{CardNo, Stamp, TxNo, Value, VersionNo};
 
+// How many counts a stamp has at most.
+const ROOM: usize = 256;
+
 // A store of cards' versions. A card's versions are kept in a drawer, which has a number of free places and may be
 // shared with other cards. A question about a card or a version that the shelf lacks answers none. Card and version are two arguments: a value of both
 // would promise no more, since the shelf that is asked may lack it.
@@ -30,7 +33,10 @@ pub trait Shelf {
 
     // The number of a card's newest version.
     fn newest(&self, card: CardNo) -> Option<VersionNo>
-        ensures { result ≡ newest_of (meaning self.now) card.0 };
+        ensures { result ≡ newest_of (meaning self.now) card.0 }
+    {
+        Some(VersionNo(self.versions(card)? - 1))
+    }
 
     // Whether two cards are kept in one drawer.
     fn shares(&self, one: CardNo, other: CardNo) -> Option<bool>
@@ -52,7 +58,14 @@ pub trait Shelf {
 
     // A version's whole stamp.
     fn stamp(&self, card: CardNo, version: VersionNo) -> Option<Stamp>
-        ensures { option_map entries result ≡ stamp_of (meaning self.now) card.0 version.0 };
+        ensures { option_map entries result ≡ stamp_of (meaning self.now) card.0 version.0 }
+    {
+        let mut counts = [0; ROOM];
+        for of in 0..ROOM {
+            counts[of] = u32::from(self.entry(card, version, CardNo(of as u32))?);
+        }
+        Stamp::from_counts(&counts)
+    }
 
     // Adds a card's newest version, or changes nothing and tells the first cause why not.
     fn put(

@@ -1,5 +1,5 @@
 -- What the calls answer, case by case. Assumes nothing.
-use Rattle.std.proofs.Common.{◌≡◌, ℕ, zero, suc, ◌<◌, ◌≤◌, Bool, true, false, cond, ◌||◌, ltb, List, [], ◌∷◌, length, Some, None, Ok, Err, Option, MatchOption, Result, refl, subst, arith}
+use Rattle.std.proofs.Common.{◌≡◌, ℕ, zero, suc, ◌<◌, ◌≤◌, Bool, true, false, cond, ◌||◌, ltb, List, [], ◌∷◌, length, Some, None, Ok, Err, Option, MatchOption, Result, sym, refl, subst, arith}
 use Rattle.std.specs.List.{slice_get}
 use Rattle.std.specs.Option.{ok_or}
 use Rattle.std.proofs.lemmas.Bool.{lt-ltb, le-ltb, eq-eqb, ne_eqb, ltb-true}
@@ -8,6 +8,7 @@ use Rattle.transactions.specs.declared.refusal.Refusal.{Refusal}
 use Rattle.transactions.specs.declared.refusal.Refusal.TheVariants as refusals
 use Rattle.transactions.specs.State.{Open, State, most_drafts, most_numbers}
 use Rattle.transactions.specs.Calls.{all_taken, open_answer, draft_by}
+use Rattle.books.specs.States.{PlaceToOpen}
 
 abbrev granted : Result (Unit {0}) Refusal
 granted = Ok tt
@@ -17,12 +18,6 @@ not_all_taken [] i e = let z : ◌≡◌ {A = ℕ} 0 1 = cc in absurd (omega ari
 not_all_taken (None ∷ ps) i e = refl
 not_all_taken (Some o ∷ ps) zero e = let z : ◌≡◌ {A = ℕ} 0 1 = cc in absurd (omega arith)
 not_all_taken (Some o ∷ ps) (suc i) e = not_all_taken ps i e
-
-pub numbers_out : (b : State) (i : ℕ) → slice_get b.places i ≡ Some None → b.given ≡ most_numbers → open_answer b ≡ Err refusals.NumbersOut
-numbers_out b i free out = rw (not_all_taken b.places i free, eq-eqb b.given most_numbers out)
-
-pub opens : (b : State) (i : ℕ) → slice_get b.places i ≡ Some None → (b.given ≡ most_numbers → ⊥) → open_answer b ≡ Ok (suc b.given)
-opens b i free more = rw (not_all_taken b.places i free, ne_eqb b.given most_numbers more)
 
 module _ (b : State) (x : ℕ) (o : Open) where
   pub draft_unread : x < b.cards → has_read o.reads x ≡ false → draft_by b x (Some o) ≡ Err refusals.Unread
@@ -54,7 +49,11 @@ pub found_there : (o : Option ℕ) (i : ℕ) → ok_or {E = Refusal} o refusals.
 found_there None i e = let z : ◌≡◌ {A = ℕ} 0 1 = cc in absurd (omega arith)
 found_there (Some j) i e = cc
 
--- the free place that was found
-pub free_there : (ps : List (Option Open)) (o : Option ℕ) (i : ℕ) → MatchOption o (all_taken ps ≡ true) (λ j. slice_get ps j ≡ Some None) → o ≡ Some i →
-    slice_get ps i ≡ Some None
-free_there ps o i told e = subst (λ x. MatchOption x (all_taken ps ≡ true) (λ j. slice_get ps j ≡ Some None)) e told
+-- the place that an open takes, by the free place that was found
+pub place_to_open : (ps : List (Option Open)) (o : Option ℕ) (r : Result ℕ Refusal) → r ≡ ok_or o refusals.AllOpen →
+    MatchOption o (all_taken ps ≡ true) (λ i. slice_get ps i ≡ Some None) → PlaceToOpen ps r
+place_to_open ps o r e told = subst (PlaceToOpen ps) (sym e) (go o told)
+  where
+    go : (o : Option ℕ) → MatchOption o (all_taken ps ≡ true) (λ i. slice_get ps i ≡ Some None) → PlaceToOpen ps (ok_or o refusals.AllOpen)
+    go None told = (told, refl)
+    go (Some i) told = (not_all_taken ps i told, told)

@@ -38,24 +38,6 @@ journal_some b m o [] e = absurd (e refl)
 journal_some b m o (d ∷ ds) e = refl
 
 module _ (b : State) (m : Meaning) (o : Open) where
-  pub decide_other : other_shelf b m o.reads ≡ true → decide b m o ≡ Err refusals.OtherShelf
-  decide_other e = rw e
-
-  pub decide_conflict : other_shelf b m o.reads ≡ false → outdated m o.reads o.drafts ≡ true → decide b m o ≡ Err refusals.Conflict
-  decide_conflict e e' = rw (e, e')
-
-  pub decide_crowded : other_shelf b m o.reads ≡ false → outdated m o.reads o.drafts ≡ false → crowded m o.drafts ≡ true →
-      decide b m o ≡ Err refusals.NoPlace
-  decide_crowded e e' c = rw (e, e', c)
-
-  pub decide_full : other_shelf b m o.reads ≡ false → outdated m o.reads o.drafts ≡ false → crowded m o.drafts ≡ false →
-      ltb (room b) (block_length o) ≡ true → decide b m o ≡ Err refusals.JournalFull
-  decide_full e e' c f = rw (e, e', c, f)
-
-  pub decide_granted : other_shelf b m o.reads ≡ false → outdated m o.reads o.drafts ≡ false → crowded m o.drafts ≡ false →
-      ltb (room b) (block_length o) ≡ false → decide b m o ≡ Ok tt
-  decide_granted e e' c f = rw (e, e', c, f)
-
   abbrev yes_granted : Result (Unit {0}) Refusal
   yes_granted = Ok tt
 

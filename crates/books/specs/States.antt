@@ -3,10 +3,16 @@
 --     sizes_of z          how many open places, read entries, drafts and journal lines the memory z has; what it holds is no part of this
 --     new_state z         books of these sizes before set-up
 --     handed s r          what a commit with the slip s answers, by the decision r: at a conflict the slip is spent
+--     PlaceToOpen ps r    r is a free place of the open places ps; AllOpen where there is none
+--     next_number b       the number after the last one given
 --     number_given r      the number of the slip that was given
-use Rattle.std.specs.Prelude.{ℕ, cond, [], Ok, Err, Result, vec_len}
+use Rattle.std.specs.Prelude.{◌≡◌, ℕ, suc, true, false, cond, List, [], Some, None, Ok, Err, Option, Result, ◌==◌, vec_len}
+use Rattle.std.specs.List.{slice_get}
+use Rattle.stamps.specs.declared.numbers.TxNo.{TxNo}
 use Rattle.transactions.specs.declared.refusal.Refusal.{Refusal}
-use Rattle.transactions.specs.State.{Sizes, State}
+use Rattle.transactions.specs.declared.refusal.Refusal.TheVariants as refusals
+use Rattle.transactions.specs.State.{Sizes, Open, State, most_numbers}
+use Rattle.transactions.specs.Calls.{all_taken}
 use Rattle.books.specs.declared.books.Books.{Books}
 use Rattle.transactions.specs.Committing.{ends_by}
 use Rattle.books.specs.declared.slip.Slip.{Slip}
@@ -35,6 +41,13 @@ sizes_of z = record { places = vec_len z.places; reads = vec_len z.reads; drafts
 
 abbrev pub new_state : Sizes → State
 new_state z = record { sizes = z; cards = 0; width = 0; places = []; given = 0; journal = [] }
+
+abbrev pub PlaceToOpen : List (Option Open) → Result ℕ Refusal → Type 0
+PlaceToOpen ps (Ok i) = (all_taken ps ≡ false) × (slice_get ps i ≡ Some None)
+PlaceToOpen ps (Err f) = (all_taken ps ≡ true) × (f ≡ refusals.AllOpen)
+
+abbrev pub next_number : State → Result TxNo Refusal
+next_number b = cond (b.given == most_numbers) (Err refusals.NumbersOut) (Ok (record { 0 = suc b.given }))
 
 abbrev pub number_given : Result Slip Refusal → Result ℕ Refusal
 number_given (Ok s) = Ok s.number.0

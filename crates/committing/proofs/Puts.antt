@@ -24,6 +24,12 @@ front_fits w xs h small =
 pub front_counts : (w : ℕ) (xs : List ℕ) (f : ℕ → ℕ) → counts_at xs ≡ f → counts_at (take w xs) ≡ cut w f
 front_counts w xs f e = fun_ext (counts_take w xs) ∙ ap (cut w) e
 
+-- a put of a card and a writer with these numbers
+pub put_as : (M M' : Meaning) (x x' n n' k k' : ℕ) (v : Value) (xs : List ℕ) → M' ≡ after_put M x v n (take k xs) → x ≡ x' → n ≡ n' → k ≡ k' →
+    M' ≡ after_put M x' v n' (take k' xs)
+put_as M M' x x' n n' k k' v xs now card writer many =
+    now ∙ ap (λ y. after_put M y v n (take k xs)) card ∙ ap (λ t. after_put M x' v t (take k xs)) writer ∙ ap (λ j. after_put M x' v n' (take j xs)) many
+
 module _ (m : Meaning) (s : Sound m) (o : Open) (spare : crowded m o.drafts ≡ false) where
   pub put_still : (from k : ℕ) → from ≤ k → ((x : ℕ) → from ≤ x → x < k → drafted o.drafts x ≡ false) → put_cards m o k ≡ put_cards m o from
   put_still from k h none = still (put_cards m o) (drafted o.drafts) (put_skips m o) from k h none

@@ -5,7 +5,7 @@ ghost use Rattle.transactions.specs.Calls.{open_answer, Opens, draft_by, draft_a
 ghost use Rattle.transactions.specs.declared.refusal.Refusal.TheVariants as refusals;
 ghost use Rattle.transactions.specs.State.{last_at, numbered};
 ghost use Rattle.tables.specs.Tables.{at};
-ghost use Rattle.books.specs.States.{state_of, sizes_of, new_state, number_given};
+ghost use Rattle.books.specs.States.{state_of, sizes_of, new_state, PlaceToOpen, next_number, number_given};
 
 use crate::books::Books;
 use crate::slip::Slip;
@@ -63,18 +63,32 @@ impl Books {
         self.table.find(number).ok_or(Refusal::NotOpen)
     }
 
+    // A free place, for an open to take.
+    fn place_to_open(&self) -> Result<usize, Refusal>
+        ensures { PlaceToOpen (state_of self.now).places result }
+    {
+        self.table.free_place().ok_or(Refusal::AllOpen)
+    }
+
+    // The number after the last one given.
+    fn next_number(&self) -> Result<TxNo, Refusal>
+        ensures { result ≡ next_number (state_of self.now) }
+    {
+        if self.given == NUMBERS {
+            return Err(Refusal::NumbersOut);
+        }
+        Ok(TxNo(self.given + 1))
+    }
+
     // Opens a transaction in a free place, and gives it the next number.
     pub fn open(&mut self) -> Result<Slip, Refusal>
         ensures answer { number_given result ≡ open_answer (state_of self.old) }
         ensures books { Opens (state_of self.old) (open_answer (state_of self.old)) (state_of self.new) }
     {
-        let place = self.table.free_place().ok_or(Refusal::AllOpen)?;
-        if self.given == NUMBERS {
-            return Err(Refusal::NumbersOut);
-        }
-        let number = TxNo(self.given + 1);
+        let place = self.place_to_open()?;
+        let number = self.next_number()?;
         self.table.occupy(place, number);
-        self.given += 1;
+        self.given = number.0;
         Ok(Slip { number })
     }
 

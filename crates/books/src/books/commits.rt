@@ -1,7 +1,7 @@
 // Committing a transaction.
-ghost use Rattle.std.specs.Prelude.{◌≡◌, true, ◌++◌, if◌then◌else◌, None, Ok, Err, slice_set};
-ghost use Rattle.transactions.specs.State.{with_places};
-ghost use Rattle.transactions.specs.Committing.{decide as decision, commit_of, put_cards, block, ends_by, shelf_with, journal_with, with_journal, commit_answer, commit_shelf, commit_books};
+ghost use Rattle.std.specs.Prelude.{◌≡◌, true, ◌++◌, if◌then◌else◌, None, Ok, Err, nat_lt, slice_set};
+ghost use Rattle.transactions.specs.State.{with_places, room};
+ghost use Rattle.transactions.specs.Committing.{outdated, crowded, block_length, decide as decision, commit_of, put_cards, block, ends_by, shelf_with, journal_with, with_journal, commit_answer, commit_shelf, commit_books};
 ghost use Rattle.books.specs.States.{state_of, handed};
 ghost use Rattle.tables.specs.Tables.{at, taken};
 
@@ -14,28 +14,55 @@ use stamps::TxNo;
 use transactions::Refusal;
 
 impl Books {
+    // Whether a card that the transaction in a place has drafted has a newer version than the one read.
+    fn has_conflict<S: Shelf>(&self, shelf: &S, place: usize) -> bool
+        ensures { result ≡ outdated (S.meaning shelf.now) (at (state_of self.now).places place).reads (at (state_of self.now).places place).drafts }
+    {
+        is_outdated(shelf, self.table.at(place))
+    }
+
+    // Whether the drafts of the transaction in a place outnumber the free places of a drawer.
+    fn lacks_places<S: Shelf>(&self, shelf: &S, place: usize) -> bool
+        ensures { result ≡ crowded (S.meaning shelf.now) (at (state_of self.now).places place).drafts }
+    {
+        is_crowded(shelf, self.table.at(place).drafts())
+    }
+
+    // Whether the journal lacks lines for the block of the transaction in a place.
+    fn lacks_lines(&self, place: usize) -> bool
+        ensures { result ≡ nat_lt (room (state_of self.now)) (block_length (at (state_of self.now).places place)) }
+    {
+        let here = self.table.at(place);
+        self.journal.room() < here.reads().len() + here.drafts().len() + 1
+    }
+
+    // Whether the drafts of the transaction in a place are committed: the first refusal of four.
+    fn decide_drafts<S: Shelf>(&self, shelf: &S, place: usize) -> Result<(), Refusal>
+        ensures { result ≡ decision (state_of self.now) (S.meaning shelf.now) (at (state_of self.now).places place) }
+    {
+        if self.is_other(shelf, place) {
+            return Err(Refusal::OtherShelf);
+        }
+        if self.has_conflict(shelf, place) {
+            return Err(Refusal::Conflict);
+        }
+        if self.lacks_places(shelf, place) {
+            return Err(Refusal::NoPlace);
+        }
+        if self.lacks_lines(place) {
+            return Err(Refusal::JournalFull);
+        }
+        Ok(())
+    }
+
     // Whether the transaction in a place is committed; without drafts nothing is tested.
     fn decide<S: Shelf>(&self, shelf: &S, place: usize) -> Result<(), Refusal>
         ensures { result ≡ commit_of (state_of self.now) (S.meaning shelf.now) (at (state_of self.now).places place) (at (state_of self.now).places place).drafts }
     {
-        let here = self.table.at(place);
-        let drafts = here.drafts();
-        if drafts.is_empty() {
+        if self.table.at(place).drafts().is_empty() {
             return Ok(());
         }
-        if self.is_other(shelf, place) {
-            return Err(Refusal::OtherShelf);
-        }
-        if is_outdated(shelf, here) {
-            return Err(Refusal::Conflict);
-        }
-        if is_crowded(shelf, drafts) {
-            return Err(Refusal::NoPlace);
-        }
-        if self.journal.room() < here.reads().len() + drafts.len() + 1 {
-            return Err(Refusal::JournalFull);
-        }
-        Ok(())
+        self.decide_drafts(shelf, place)
     }
 
     // Writes the block of the transaction in a place into the journal, and puts its drafts. The place and the number come from one search; a value

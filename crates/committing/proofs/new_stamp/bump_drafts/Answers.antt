@@ -1,4 +1,5 @@
-use Rattle.std.proofs.Common.{map}
+use Rattle.std.proofs.Common.{map, ap, ◌∙◌, arith}
+use Rattle.stamps.specs.Counts.{bumped}
 use Rattle.stamps.specs.Entries.{entries}
 use Rattle.entries.specs.declared.entries.DraftEntry.{DraftEntry}
 use Rattle.entries.specs.Contents.{drafting}
@@ -12,7 +13,8 @@ none = record { card = record { 0 = 0 }; value = record { first = 0; second = 0 
 pub loop-draft-preserved : goal.loop-draft-preserved
 loop-draft-preserved c =
     bump_more c.args.drafts.now c.loop-draft.draft-index none (entries c.loop-draft.stamp) (entries c.bump.new.self)
-    (bump_all (entries c.args.stamp.now) (map drafting c.args.drafts.now)) c.loop-draft-test.true c.bump.ensures c.loop-draft.invariant
+    (bump_all (entries c.args.stamp.now) (map drafting c.args.drafts.now)) c.loop-draft-test.true
+    (c.bump.ensures ∙ ap (bumped (entries c.loop-draft.stamp)) (omega arith)) c.loop-draft.invariant
 
 pub returns : goal.returns
 returns c =

@@ -1,5 +1,7 @@
-use Rattle.std.proofs.Common.{ap, arith}
+use Rattle.std.proofs.Common.{get_or, ap, ◌∙◌, arith, rules}
+use Rattle.stamps.specs.Counts.{joined}
 use Rattle.stamps.specs.Entries.{entries}
+use Rattle.transactions.specs.Choosing.{stamps_of}
 use Rattle.entries.specs.declared.entries.ReadEntry.{ReadEntry}
 use Rattle.committing.proofs.Stamps.{join_more, join_end}
 use Rattle.committing.proofs.new_stamp.joined_stamp.Goals as goal
@@ -12,8 +14,12 @@ loop-read-init g c = λ y. omega (arith, ap (λ f. f y) c.zero-stamp.ensures)
 
 pub loop-read-preserved : goal.loop-read-preserved
 loop-read-preserved g c =
-    join_more (g.S.Shelf.meaning c.args.shelf.now) c.args.reads.now c.loop-read.read-index none c.loop-read-test.true (entries c.loop-read.stamp)
-    (entries c.join_read.new.stamp) c.join_read.ensures c.loop-read.invariant
+    let m = g.S.Shelf.meaning c.args.shelf.now in
+    let es = c.args.reads.now in
+    let i = c.loop-read.read-index in
+    let old = entries c.loop-read.stamp in
+    join_more m es i none c.loop-read-test.true old (entries c.join_read.new.stamp)
+    (c.join_read.ensures ∙ ap (λ k. joined old (stamps_of m (get_or es i none).card.0 k)) (search rules)) c.loop-read.invariant
 
 pub returns : goal.returns
 returns g c =

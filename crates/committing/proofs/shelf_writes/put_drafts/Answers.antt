@@ -4,7 +4,7 @@ use Rattle.stamps.specs.Counts.{room}
 use Rattle.shelf.specs.Putting.{after_put}
 use Rattle.transactions.specs.Committing.{put_cards}
 use Rattle.entries.specs.Contents.{reading, drafting, draft_cards, opening}
-use Rattle.committing.proofs.Puts.{front_fits, front_counts, put_still, put_step}
+use Rattle.committing.proofs.Puts.{put_as, front_fits, front_counts, put_still, put_step}
 use Rattle.entries.proofs.Stops.{next_draft, no_draft}
 use Rattle.entries.proofs.Walks.{apart_wider}
 use Rattle.committing.proofs.shelf_writes.put_drafts.Goals as goal
@@ -27,7 +27,7 @@ loop-draft-preserved g c =
     let o = opening c.args.writer.0 (map reading c.args.reads.now) (map drafting es) in
     let M = g.S.Shelf.meaning c.loop-draft.shelf in
     let zero : w - 0 ≡ m.width = omega (arith, c.width-width.ensures) in
-    let now = c.put.ensures.after ∙ ap (λ k. after_put M e.card.0 e.value c.args.writer.0 (take k xs)) zero in
+    let now = put_as M _ _ e.card.0 _ c.args.writer.0 _ m.width e.value xs c.put.ensures.after (omega arith) (omega arith) zero in
     let wide : m.width ≤ length xs = omega (arith, c.list-counts.ensures.full, s.narrow) in (
       c.in-Some.ensures.steps.0 ∙ c.loop-draft.invariant.0,
       put_step m s o c.requires.spare it.from e.card.0 e.value (take m.width xs) M (g.S.Shelf.meaning c.put.new.self) next.low next.there

@@ -18,8 +18,10 @@ log_each-requires g c =
 
 pub log_each-requires-2 : goal.log_each-requires-2
 log_each-requires-2 g c =
+    let read = ap (apart room) (sym (reading_cards c.args.reads.now)) ∙ c.requires.read in
+    let drafted = ap (apart room) (sym (drafting_cards c.args.drafts.now)) ∙ c.requires.drafted in
     record {
-      listed = ap (apart room) (sym (drafting_cards c.args.drafts.now)) ∙ c.requires.drafted;
+      listed = search (read, drafted);
       space = omega (arith, c.log_each.ensures.many, c.log_each.ensures.size, c.requires.space);
     }
 

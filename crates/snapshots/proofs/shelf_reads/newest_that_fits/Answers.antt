@@ -1,4 +1,4 @@
-use Rattle.std.proofs.Common.{map, sym, ap, ◌∙◌, arith}
+use Rattle.std.proofs.Common.{map, Some, sym, ap, ◌∙◌, arith, rules}
 use Rattle.transactions.specs.Choosing.{newest_fit}
 use Rattle.entries.specs.declared.entries.ReadEntry.{ReadEntry}
 use Rattle.entries.specs.Contents.{reading}
@@ -45,4 +45,4 @@ returns-after-loop-entry g c =
     let x = c.args.card.0 in
     let n = c.loop-entry.n in
     let fits = fits_end m x n es c.loop-entry.entry-index c.loop-entry-test.false c.loop-entry.invariant.1 in
-    sym (fit_here m (map reading es) x n fits) ∙ ap (newest_fit m (map reading es) x) c.loop-entry.invariant.0 ∙ c.versions.invariant
+    ap Some (search rules) ∙ sym (fit_here m (map reading es) x n fits) ∙ ap (newest_fit m (map reading es) x) c.loop-entry.invariant.0 ∙ c.versions.invariant

@@ -1,7 +1,8 @@
-use Rattle.std.proofs.Common.{None, sym, ap, ◌∙◌}
+use Rattle.std.proofs.Common.{None, sym, ap, ◌∙◌, arith}
 use Rattle.transactions.specs.State.{last_at, numbered}
 use Rattle.transactions.specs.Calls.{if_held}
 use Rattle.books.specs.States.{state_of, state_with}
+use Rattle.tables.specs.Tables.{table_of, with_place}
 use Rattle.journals.specs.Journals.{log_of}
 use Rattle.books.proofs.CallCases.{found_there}
 use Rattle.books.proofs.Held.{held_is, put_back_is}
@@ -15,5 +16,7 @@ returns c =
     let found = found_there (last_at (numbered n) (state_of b).places) i (sym c.place_of.ensures ∙ c.in_ok-place.was) in
     record {
       answer = sym (ap if_held (held_is (state_of b) n i found));
-      books = ap (λ t. state_with t b.width b.given (log_of b.journal)) c.release.ensures ∙ sym (put_back_is (state_of b) n i None found);
+      books =
+          ap (λ t. state_with t b.width b.given (log_of b.journal)) (c.release.ensures ∙ ap (λ p. with_place (table_of b.table) p None) (omega arith))
+          ∙ sym (put_back_is (state_of b) n i None found);
     }

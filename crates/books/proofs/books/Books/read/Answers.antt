@@ -1,11 +1,11 @@
-use Rattle.std.proofs.Common.{Some, Ok, Err, sym, ap, ◌∙◌}
+use Rattle.std.proofs.Common.{Some, Ok, Err, sym, ap, ◌∙◌, arith}
 use Rattle.std.specs.Option.{option_map}
 use Rattle.std.proofs.lemmas.Result.{err_from_is_err_and}
 use Rattle.transactions.specs.State.{last_at, numbered}
 use Rattle.transactions.specs.Calls.{read_at}
 use Rattle.transactions.specs.Choosing.{version_read}
 use Rattle.books.specs.States.{state_of}
-use Rattle.tables.specs.Tables.{at}
+use Rattle.tables.specs.Tables.{at, seat}
 use Rattle.books.proofs.CallCases.{found_there}
 use Rattle.entries.proofs.Drafts.{version_read_lacks}
 use Rattle.books.proofs.Held.{holds_from}
@@ -54,7 +54,12 @@ returns-in-Some g c =
     let found = found_there (last_at (numbered n) b.places) i (sym c.place_of.ensures ∙ c.in_ok-place.was) in
     let ok = sym c.may_read.ensures ∙ c.in_ok-may_read.was in
     let known = sym (c.version_read.ensures ∙ ap (λ l. version_read l.reads x) c.at-here.ensures) ∙ ap (option_map (λ v. v.0)) c.in-Some.is in
-    record { answer = ap Ok c.seen.ensures ∙ ap (λ l. read_at m l.drafts x (Some k)) c.at-here.ensures ∙ sym (read_known b m n x i found k ok known); books = read_known_books b m n x i found k ok known }
+    record {
+      answer =
+          ap Ok c.seen.ensures ∙ ap (λ j. read_at m (seat c.at-here.result).drafts x (Some j)) (omega arith)
+          ∙ ap (λ l. read_at m l.drafts x (Some k)) c.at-here.ensures ∙ sym (read_known b m n x i found k ok known);
+      books = read_known_books b m n x i found k ok known;
+    }
 
 pub returns-in-None : goal.returns-in-None
 returns-in-None g c =

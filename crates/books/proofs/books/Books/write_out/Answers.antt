@@ -1,4 +1,5 @@
 use Rattle.std.proofs.Common.{◌≤◌, map, length, ap, ◌∙◌, arith}
+use Rattle.std.proofs.lemmas.Grind.{common_steps}
 use Rattle.std.proofs.lemmas.List.{length-map}
 use Rattle.stamps.specs.Counts.{room}
 use Rattle.transactions.specs.Committing.{crowded, put_cards, block}
@@ -43,8 +44,8 @@ put_drafts-requires g c =
     let rs = c.reads-reads.ensures ∙ ap (λ l. l.reads) c.at-here.ensures in
     let ds = c.drafts-drafts.ensures ∙ ap (λ l. l.drafts) c.at-here.ensures in
     record {
-      listed = ap (λ l. apart m.cards (draft_cards l)) ds ∙ ap (λ n. apart n (draft_cards o.drafts)) (same_cards b m o passed.0) ∙ neat.1;
-      spare = ap (crowded m) ds ∙ passed.1;
+      listed = ap (λ l. apart m.cards (draft_cards l)) (ap (map drafting) (grind (arith, common_steps)) ∙ ds) ∙ ap (λ n. apart n (draft_cards o.drafts)) (same_cards b m o passed.0) ∙ neat.1;
+      spare = ap (crowded m) (ap (map drafting) (grind (arith, common_steps)) ∙ ds) ∙ passed.1;
     }
 
 pub returns : goal.returns
@@ -60,7 +61,10 @@ returns g c =
     let ds = c.drafts-drafts.ensures ∙ ap (λ l. l.drafts) c.at-here.ensures in
     let is = opening_is o c.args.number.0 (map reading c.reads-reads.result.now) (map drafting c.drafts-drafts.result.now) c.requires.number rs ds in
     record {
-      shelf = c.put_drafts.ensures ∙ ap (λ q. put_cards m q m.cards) is ∙ ap (put_cards m o) (same_cards b m o passed.0);
+      shelf =
+          c.put_drafts.ensures
+          ∙ ap (λ q. put_cards m q m.cards) (opening_is o _ _ _ c.requires.number rs (ap (map drafting) (grind (arith, common_steps)) ∙ ds))
+          ∙ ap (put_cards m o) (same_cards b m o passed.0);
       books =
           ap (state_with (table_of t) c.args.self.now.width c.args.self.now.given)
           (c.log_block.ensures t.reads.width (ap (λ l. apart t.reads.width (read_cards l)) rs ∙ neat.0) (ap (λ l. apart t.reads.width (draft_cards l)) ds ∙ neat.1)

@@ -31,9 +31,11 @@ unsafe extern "C" {
     fn workload_row(work: *const ShelfWork) -> u64;
     fn workload_pool(work: *const ShelfWork) -> u64;
     fn workload_split(work: *const ShelfWork) -> u64;
+    fn workload_pile(work: *const ShelfWork) -> u64;
     fn workload_editing_row(work: *const EditingWork) -> u64;
     fn workload_editing_pool(work: *const EditingWork) -> u64;
     fn workload_editing_split(work: *const EditingWork) -> u64;
+    fn workload_editing_pile(work: *const EditingWork) -> u64;
 }
 
 // What the judge says: a refusal's number, or 100 and then 1 for WCF, 2 for CONS and 4 for ACA, where they hold.
@@ -48,6 +50,7 @@ pub fn shelf(make: Make, work: &ShelfWork) -> u64 {
             Make::Row => workload_row(work),
             Make::Pool => workload_pool(work),
             Make::Split => workload_split(work),
+            Make::Pile => workload_pile(work),
         }
     }
 }
@@ -59,6 +62,7 @@ pub fn editing(make: Make, work: &EditingWork) -> u64 {
             Make::Row => workload_editing_row(work),
             Make::Pool => workload_editing_pool(work),
             Make::Split => workload_editing_split(work),
+            Make::Pile => workload_editing_pile(work),
         }
     }
 }

@@ -232,6 +232,12 @@ pub fn run() {
         line(name, Make::Pool, "pool", kind, work);
         line(name, Make::Split, "split of two pools", kind, Work { places: 100_000, ..work });
     }
+    head("Catalogue: on a pile of splits");
+    for (name, kind) in kinds {
+        let work = Work { cards: 63, places: 100_000, ..work };
+        line(name, Make::Pool, "pool", kind, Work { places: 60_000, ..work });
+        line(name, Make::Pile, "eight splits on nine pools", kind, work);
+    }
     head("Catalogue: growth with the cards");
     for cards in [4, 16, 64, 256] {
         line(

@@ -8,7 +8,10 @@ use crate::timing::best;
 pub enum Make {
     Row,
     Pool,
+    // Of two pools.
     Split,
+    // Eight splits on nine pools.
+    Pile,
 }
 
 pub fn plain_store(make: Make, cards: u32, width: u32, places: u32) -> Store {
@@ -16,11 +19,12 @@ pub fn plain_store(make: Make, cards: u32, width: u32, places: u32) -> Store {
     let mut store = match make {
         Make::Row => Store::row(cards, width, places),
         Make::Pool => Store::pool(cards, width, places),
-        Make::Split => Store::halves(cards, width, places / 2),
+        Make::Split => Store::parts(cards, width, 2, places / 2),
+        Make::Pile => Store::parts(cards, width, 9, places / 9),
     };
     store.reserve(match make {
         Make::Row => places as usize,
-        Make::Pool | Make::Split => places as usize / cards * 5 / 4 + 8,
+        Make::Pool | Make::Split | Make::Pile => places as usize / cards * 5 / 4 + 8,
     });
     store
 }
@@ -128,5 +132,17 @@ pub fn run() {
                 },
             );
         }
+    }
+    for (cards, versions) in [(18, 90), (18, 1_000), (18, 60_000), (252, 60_000)] {
+        let work = ShelfWork {
+            cards,
+            width: cards,
+            places: versions * 5 / 4,
+            puts: versions,
+            asks: 200_000,
+        };
+        row("pool", Make::Pool, ShelfWork { places: versions, ..work });
+        row("split of two pools", Make::Split, work);
+        row("eight splits on nine pools", Make::Pile, work);
     }
 }

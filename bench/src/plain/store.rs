@@ -55,9 +55,10 @@ impl Store {
         Store::with(width, cards, vec![places], |_| 0)
     }
 
-    // Two drawers, each for half of the cards.
-    pub fn halves(cards: usize, width: usize, places: u32) -> Store {
-        Store::with(width, cards / 2 * 2, vec![places; 2], |c| c / (cards / 2))
+    // So many drawers, each for an equal part of the cards.
+    pub fn parts(cards: usize, width: usize, drawers: usize, places: u32) -> Store {
+        let each = cards / drawers;
+        Store::with(width, each * drawers, vec![places; drawers], |c| c / each)
     }
 
     // Reserves memory for this many more versions of each card and writes to it once, as a shelf's memory is reserved and cleared

@@ -2,12 +2,14 @@
 #![tactic(auto)]
 
 mod giving;
+mod making;
 mod placed;
 mod places;
 mod reserved;
 mod stamping;
 
-pub use giving::{Drawers, is_within};
+pub use giving::Drawers;
+pub use making::{MakeDrawers, is_within};
 pub use placed::PlacedShelf;
 pub use places::{Places, Written};
 pub use reserved::{Fitted, reserved_shelf};

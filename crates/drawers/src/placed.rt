@@ -9,6 +9,7 @@ ghost use Rattle.drawers.specs.Fresh.{no_cards};
 ghost use Rattle.drawers.specs.Places.{version_kept};
 
 use crate::giving::Drawers;
+use crate::making::MakeDrawers;
 use crate::places::Written;
 use crate::stamping::stamp_from;
 use shelf::{CheckRefusal, PutRefusal, Shelf, Size};
@@ -21,7 +22,7 @@ pub struct PlacedShelf<D> {
     drawers: D,
 }
 
-impl<D: Drawers> PlacedShelf<D> {
+impl<D: MakeDrawers> PlacedShelf<D> {
     // Whether a shelf of this size fits into the memory.
     pub fn check(memory: &D::Memory, size: Size) -> Result<(), CheckRefusal>
         ensures { result ≡ (if D.fits memory.now size then Ok tt else Err NoFit) }
@@ -53,7 +54,9 @@ impl<D: Drawers> PlacedShelf<D> {
             drawers: D::none(D::no_memory(alloc)),
         }
     }
+}
 
+impl<D: Drawers> PlacedShelf<D> {
     fn has(&self, card: CardNo) -> bool
         ensures { result ≡ nat_lt card.0 (D.meaning self.now.drawers).cards }
     {
@@ -141,7 +144,7 @@ impl<D: Drawers> Shelf for PlacedShelf<D> {
         writer: TxNo,
         counts: &[u32],
     ) -> Result<(), PutRefusal> {
-        let free = self.free(card).ok_or(PutRefusal::NoCard)?;
+        let free = Self::free(self, card).ok_or(PutRefusal::NoCard)?;
         let stamp = self.stamp_of(counts).ok_or(PutRefusal::BadStamp)?;
         if free == 0 {
             return Err(PutRefusal::NoPlace);

@@ -2,7 +2,7 @@
 ghost use Rattle.std.specs.Prelude.{◌≡◌, true, IfOk, IsErr};
 ghost use Rattle.drawers.specs.Fresh.{fit_told, made, size_fits};
 
-use crate::giving::{Drawers, is_within};
+use crate::making::{MakeDrawers, is_within};
 use crate::placed::PlacedShelf;
 use shelf::{CheckRefusal, Shelf, Size};
 use std::alloc::{AllocError, Global};
@@ -19,7 +19,7 @@ pub struct Fitted<S> {
 ///
 /// It fits exactly when the size is within the limits of its make. Where it does not, the shelf has
 /// no cards, and no memory is asked for. The only error is that memory is wanting.
-pub fn reserved_shelf<D: Drawers>(
+pub fn reserved_shelf<D: MakeDrawers>(
     alloc: Global,
     size: Size,
 ) -> Result<Fitted<PlacedShelf<D>>, AllocError>

@@ -12,7 +12,7 @@ use Rattle.scripts.specs.declared.makes.Made.TheVariants.{Row, Pool, Split, Nest
 use Rattle.shelf.specs.Meaning.{Meaning}
 use Rattle.splits.specs.Split.{parts, join}
 
-abbrev pub split_meaning : SplitShelf (PlacedShelf RowDrawers) (PlacedShelf PoolDrawer) → Meaning
+abbrev pub split_meaning : {g h : _} → SplitShelf (PlacedShelf RowDrawers) (PlacedShelf PoolDrawer) g h → Meaning
 split_meaning s = join (parts (row_meaning s.left.drawers) (pool_meaning s.right.drawers))
 
 abbrev pub shelf_meaning : Made → Meaning

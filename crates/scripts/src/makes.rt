@@ -4,7 +4,7 @@ ghost use Rattle.drawers.specs.Fresh.{fit_told};
 ghost use Rattle.scripts.specs.Makes.{made_by, make_fits};
 ghost use Rattle.scripts.specs.Shelves.{shelf_meaning};
 
-use drawers::{Drawers, Fitted, PlacedShelf, is_within, reserved_shelf};
+use drawers::{Fitted, MakeDrawers, PlacedShelf, is_within, reserved_shelf};
 use pools::{PoolDrawer, PoolShelf};
 use rows::{RowDrawers, RowShelf};
 use shelf::{CheckRefusal, Size};

@@ -1,6 +1,7 @@
 // One table of steps over every make of shelf.
 use crate::{
-    Drawers, PlacedShelf, PoolShelf, PutRefusal, RowShelf, Shelf, Size, SplitShelf, reserved_shelf,
+    MakeDrawers, PlacedShelf, PoolShelf, PutRefusal, RowShelf, Shelf, Size, SplitShelf,
+    reserved_shelf,
 };
 use stamps::{CardNo, TxNo, Value, VersionNo};
 use std::alloc::{AllocError, Global};
@@ -8,7 +9,7 @@ use std::process::Abort;
 use std::test::Fail;
 
 // A row or a pool of two cards, with three counts to a stamp.
-fn made<D: Drawers>(heap: Global, places: u32) -> Result<PlacedShelf<D>, AllocError> {
+fn made<D: MakeDrawers>(heap: Global, places: u32) -> Result<PlacedShelf<D>, AllocError> {
     let size = Size {
         cards: 2,
         width: 3,

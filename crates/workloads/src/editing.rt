@@ -4,7 +4,7 @@ use super::cards::Cards;
 use super::desk::Desk;
 use super::dice::Dice;
 use super::long_reader::LongReader;
-use super::makes::{Work, on_drawers, on_split};
+use super::makes::{Work, on_drawers, on_pile, on_split};
 use books::Slip;
 use catalogue::{BooksMemory, Catalogue};
 use shelf::Shelf;
@@ -175,7 +175,7 @@ impl Work for EditingWork {
     }
 }
 
-// Work on a row, a pool and a split of two pools: its checksum, 0 where memory is wanting, since C takes no option.
+// Work on a row, a pool, a split of two pools and a pile of eight splits: its checksum, 0 where memory is wanting, since C takes no option.
 #[unsafe(no_mangle)]
 pub extern "C" fn workload_editing_row(heap: Global, work: &EditingWork) -> u64 {
     on_drawers::<RowDrawers, _>(heap, work).unwrap_or(0)
@@ -189,4 +189,9 @@ pub extern "C" fn workload_editing_pool(heap: Global, work: &EditingWork) -> u64
 #[unsafe(no_mangle)]
 pub extern "C" fn workload_editing_split(heap: Global, work: &EditingWork) -> u64 {
     on_split(heap, work).unwrap_or(0)
+}
+
+#[unsafe(no_mangle)]
+pub extern "C" fn workload_editing_pile(heap: Global, work: &EditingWork) -> u64 {
+    on_pile(heap, work).unwrap_or(0)
 }

@@ -2,7 +2,7 @@
 ghost use Rattle.std.specs.Prelude.{◌<◌};
 
 use super::dice::Dice;
-use super::makes::{Work, on_drawers, on_split};
+use super::makes::{Work, on_drawers, on_pile, on_split};
 use shelves::{PoolDrawer, RowDrawers, Shelf, Size};
 use stamps::{CardNo, TxNo, Value, VersionNo};
 use std::alloc::{AllocError, Global};
@@ -87,7 +87,7 @@ impl Work for ShelfWork {
     }
 }
 
-// Work on a row, a pool and a split of two pools: its checksum, 0 where memory is wanting, since C takes no option.
+// Work on a row, a pool, a split of two pools and a pile of eight splits: its checksum, 0 where memory is wanting, since C takes no option.
 #[unsafe(no_mangle)]
 pub extern "C" fn workload_row(heap: Global, work: &ShelfWork) -> u64 {
     on_drawers::<RowDrawers, _>(heap, work).unwrap_or(0)
@@ -101,4 +101,9 @@ pub extern "C" fn workload_pool(heap: Global, work: &ShelfWork) -> u64 {
 #[unsafe(no_mangle)]
 pub extern "C" fn workload_split(heap: Global, work: &ShelfWork) -> u64 {
     on_split(heap, work).unwrap_or(0)
+}
+
+#[unsafe(no_mangle)]
+pub extern "C" fn workload_pile(heap: Global, work: &ShelfWork) -> u64 {
+    on_pile(heap, work).unwrap_or(0)
 }

@@ -1,57 +1,20 @@
-// What the drawer of a pool shelf answers, and how it takes a version.
+// What the drawer of a pool shelf answers, how it takes a version, and how it is made.
 ghost use Rattle.std.specs.Prelude.{refl};
 ghost use Rattle.drawers.specs.Fresh.{all_one};
 ghost use Rattle.pools.specs.PoolMeaning.{pool_meaning, pool_fits, pool_made};
 ghost use Rattle.pools.specs.PoolFacts;
 
 use crate::pool::{PoolDrawer, PoolMemory};
-use drawers::{Drawers, Written};
+use drawers::{Drawers, MakeDrawers, Written};
 use shelf::Size;
 use stamps::{CardNo, VersionNo};
 use std::alloc::{AllocError, Global};
 
 #[tactic(auto, unfolding(crate::specs::PoolMeaning::pool_meaning))]
 impl Drawers for PoolDrawer {
-    type Memory = PoolMemory;
-
     ghost meaning = { pool_meaning };
 
-    const MOST_PLACES: u32 = 65535;
-
-    ghost MOST_PLACES = { 65535 };
-
-    ghost fits = { pool_fits };
-
-    ghost made = { pool_made };
-
-    ghost together = { all_one };
-
     ghost sound = { PoolFacts.sound };
-
-    ghost fits_within = { PoolFacts.fits_within };
-
-    ghost made_if_fits = { λ m size. refl };
-
-    // This and the next five are alike in rows and pools: each is one line that names a function or a field of its own type, so one text for both would be a macro or a trait more.
-    fn reserve(heap: Global, cards: u32, places: u32) -> Result<PoolMemory, AllocError> {
-        PoolMemory::reserve(heap, cards, places)
-    }
-
-    fn no_memory(alloc: Global) -> PoolMemory {
-        PoolMemory::empty(alloc)
-    }
-
-    fn fits(memory: &PoolMemory, size: Size) -> bool {
-        memory.fits(size)
-    }
-
-    fn empty(memory: PoolMemory, size: Size) -> PoolDrawer {
-        PoolDrawer::opened(memory, size)
-    }
-
-    fn none(memory: PoolMemory) -> PoolDrawer {
-        PoolDrawer::opened(memory, Size::NOTHING)
-    }
 
     fn size(&self) -> Size {
         self.size
@@ -76,5 +39,45 @@ impl Drawers for PoolDrawer {
 
     fn add(&mut self, card: CardNo, written: Written) {
         self.append(card, written);
+    }
+}
+
+#[tactic(auto, unfolding(crate::specs::PoolMeaning::pool_meaning))]
+impl MakeDrawers for PoolDrawer {
+    type Memory = PoolMemory;
+
+    const MOST_PLACES: u32 = 65535;
+
+    ghost MOST_PLACES = { 65535 };
+
+    ghost fits = { pool_fits };
+
+    ghost made = { pool_made };
+
+    ghost together = { all_one };
+
+    ghost fits_within = { PoolFacts.fits_within };
+
+    ghost made_if_fits = { λ m size. refl };
+
+    // This and the next five are alike in rows and pools: each is one line that names a function or a field of its own type, so one text for both would be a macro or a trait more.
+    fn reserve(heap: Global, cards: u32, places: u32) -> Result<PoolMemory, AllocError> {
+        PoolMemory::reserve(heap, cards, places)
+    }
+
+    fn no_memory(alloc: Global) -> PoolMemory {
+        PoolMemory::empty(alloc)
+    }
+
+    fn fits(memory: &PoolMemory, size: Size) -> bool {
+        memory.fits(size)
+    }
+
+    fn empty(memory: PoolMemory, size: Size) -> PoolDrawer {
+        PoolDrawer::opened(memory, size)
+    }
+
+    fn none(memory: PoolMemory) -> PoolDrawer {
+        PoolDrawer::opened(memory, Size::NOTHING)
     }
 }

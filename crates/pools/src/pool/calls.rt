@@ -5,7 +5,7 @@ ghost use Rattle.pools.specs.PoolMeaning.{pool_meaning, pool_fits};
 
 use crate::chain::{Chain, Link};
 use crate::pool::{PoolDrawer, PoolMemory};
-use drawers::{Drawers, Places, is_within};
+use drawers::{MakeDrawers, Places, is_within};
 use shelf::Size;
 use stamps::CardNo;
 use std::alloc::{AllocError, Global};

@@ -4,7 +4,7 @@ ghost use Rattle.drawers.specs.Fresh.{no_cards, fresh, each_own};
 ghost use Rattle.rows.specs.RowMeaning.{row_meaning, row_fits};
 
 use crate::row::{RowDrawers, RowMemory};
-use drawers::{Drawers, Places, is_within};
+use drawers::{MakeDrawers, Places, is_within};
 use shelf::Size;
 use std::alloc::{AllocError, Global};
 

@@ -6,9 +6,6 @@ use crate::split::{Side, SplitShelf};
 use shelf::{PutRefusal, Shelf};
 use stamps::{CardNo, Stamp, TxNo, Value, VersionNo};
 
-// How many cards a split shows at most.
-const MOST_CARDS: u32 = 256;
-
 impl<L: Shelf, R: Shelf> SplitShelf<L, R> {
     // The side that keeps a card, and the card's number there; none for a card that the split does not show.
     pub fn side(&self, card: CardNo) -> Option<(Side, CardNo)>
@@ -17,7 +14,7 @@ impl<L: Shelf, R: Shelf> SplitShelf<L, R> {
         if card.0 >= self.cards() {
             return None;
         }
-        let on_left = self.left.cards();
+        let on_left = self.on_left;
         if card.0 < on_left {
             return Some((Side::Left, card));
         }
@@ -37,13 +34,13 @@ impl<L: Shelf, R: Shelf> Shelf for SplitShelf<L, R> {
 
     #[tactic(auto, unfolding(crate::specs::Split::join))]
     fn cards(&self) -> u32 {
-        (self.left.cards() + self.right.cards()).min(MOST_CARDS)
+        self.cards
     }
 
     // The smaller width of the two.
     #[tactic(auto, unfolding(crate::specs::Split::join))]
     fn width(&self) -> u32 {
-        self.left.width().min(self.right.width())
+        self.width
     }
 
     fn versions(&self, card: CardNo) -> Option<u32> {
@@ -115,7 +112,7 @@ impl<L: Shelf, R: Shelf> Shelf for SplitShelf<L, R> {
         counts: &[u32],
     ) -> Result<(), PutRefusal> {
         let (side, card) = self.side(card).ok_or(PutRefusal::NoCard)?;
-        if counts.len() > self.width() as usize {
+        if counts.len() > Self::width(self) as usize {
             return Err(PutRefusal::BadStamp);
         }
         match side {

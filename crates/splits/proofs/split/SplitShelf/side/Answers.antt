@@ -11,9 +11,9 @@ returns-then-card-cards g c =
 pub returns-then-card-on_left : goal.returns-then-card-on_left
 returns-then-card-on_left g c =
     let p = parts (g.L.Shelf.meaning c.args.self.now.left) (g.R.Shelf.meaning c.args.self.now.right) in
-    kept_left p c.args.card.0 c.cards-on_left.result c.cards.result c.cards-on_left.ensures c.cards.ensures c.if-card-cards.false c.if-card-on_left.true
+    kept_left p c.args.card.0 c.args.self.now.on_left c.cards.result c.args.self.now.told_on_left c.cards.ensures c.if-card-cards.false c.if-card-on_left.true
 
 pub returns : goal.returns
 returns g c =
     let p = parts (g.L.Shelf.meaning c.args.self.now.left) (g.R.Shelf.meaning c.args.self.now.right) in
-    kept_right p c.args.card.0 c.cards-on_left.result c.cards.result c.cards-on_left.ensures c.cards.ensures c.if-card-cards.false c.if-card-on_left.false
+    kept_right p c.args.card.0 c.args.self.now.on_left c.cards.result c.args.self.now.told_on_left c.cards.ensures c.if-card-cards.false c.if-card-on_left.false

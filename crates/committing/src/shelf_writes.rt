@@ -49,7 +49,7 @@ pub fn put_drafts<S: Shelf>(shelf: &mut S, writer: TxNo, reads: &[ReadEntry], dr
     requires spare { crowded (S.meaning shelf.old) (map drafting drafts.now) ≡ false }
     ensures { S.meaning shelf.new ≡ put_cards (S.meaning shelf.old) (opening writer.0 (map reading reads.now) (map drafting drafts.now)) (S.meaning shelf.old).cards }
 {
-    let width = shelf.width() as usize;
+    let width = S::width(shelf) as usize;
     let counts = new_stamp(shelf, reads, drafts).list();
     for draft in rising(drafts) {
         let _ = shelf.put(draft.card, draft.value, writer, &counts[0..width]);

@@ -158,9 +158,9 @@ impl Session {
             Command::Commit(number) => self.commit(shelf, number),
             Command::Abandon(number) => self.abandon(shelf, number),
             Command::Close => self.close(shelf),
-            Command::Versions(card) => Answer::Versions(card, shelf.versions(card)),
+            Command::Versions(card) => Answer::Versions(card, S::versions(shelf, card)),
             Command::Stamp(card, version) => {
-                Answer::Stamp(card, version, shelf.stamp(card, version))
+                Answer::Stamp(card, version, S::stamp(shelf, card, version))
             }
             Command::Journal => self.journal(shelf),
         }

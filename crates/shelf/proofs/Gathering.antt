@@ -1,5 +1,5 @@
 -- A version's counts, gathered one after the other. Assumes nothing.
-use Rattle.std.proofs.Common.{◌≡◌, ℕ, zero, suc, ◌<◌, ◌≤◌, Bool, true, false, cond, ◌&&◌, if◌then◌else◌, ltb, leb, List, length, get_or, slice_set, replicate, Option, Some, None, refl, ap, ◌∙◌, sym, inl, inr, arith}
+use Rattle.std.proofs.Common.{◌≡◌, ℕ, suc, ◌<◌, true, cond, if◌then◌else◌, ltb, List, length, get_or, slice_set, replicate, Option, Some, None, refl, ap, ◌∙◌, sym, inl, inr, arith}
 use mathlib.Core.Path.{fun_ext}
 use Rattle.std.specs.Option.{option_map}
 use Rattle.std.proofs.lemmas.Bool.{cases_lt, cases_eq, and_from, le-leb, lt-ltb, le-ltb, cond-true, cond-false}

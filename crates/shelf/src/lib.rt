@@ -1,8 +1,8 @@
 // What a shelf is: the trait that every make of it implements, its meaning and laws, and why one refuses.
 #![tactic(auto)]
 
-pub mod refusal;
 mod lent;
+pub mod refusal;
 mod shelf;
 mod size;
 

@@ -1,4 +1,4 @@
-use Rattle.std.proofs.Common.{◌≡◌, length, refl, sym, ◌∙◌, subst, add-one, length-set, arith}
+use Rattle.std.proofs.Common.{◌≡◌, refl, ◌∙◌, subst, add-one, length-set, arith}
 use Rattle.shelf.specs.Meaning.{version_at}
 use Rattle.shelf.proofs.Gathering.{Gathered, gathered_none, gathered_more, gathered_all}
 use Rattle.shelf.proofs.shelf.Shelf.stamp.Goals as goal

@@ -1,9 +1,10 @@
 use crate::script::{EVENING, MORNING, OPENS};
 use catalogue::BooksMemory;
+use lists::ListShelf;
 use sessions::{Answer, Command, SessionMemory, run};
 use shelf::Shelf;
 use shelves::{
-    Drawers, PlacedShelf, PoolDrawer, PoolShelf, RowDrawers, RowShelf, Size, SplitShelf,
+    MakeDrawers, PlacedShelf, PoolDrawer, PoolShelf, RowDrawers, RowShelf, Size, SplitShelf,
     reserved_shelf,
 };
 use stamps::{CardNo, Stamp};
@@ -125,7 +126,11 @@ fn goes<S: Shelf>(heap: Global, shelf: &mut S) -> Result<bool, AllocError> {
 }
 
 // A shelf of so many cards, with these places in each drawer and three counts in a stamp.
-fn placed<D: Drawers>(heap: Global, cards: u32, places: u32) -> Result<PlacedShelf<D>, AllocError> {
+fn placed<D: MakeDrawers>(
+    heap: Global,
+    cards: u32,
+    places: u32,
+) -> Result<PlacedShelf<D>, AllocError> {
     let size = Size {
         cards,
         width: 3,
@@ -142,6 +147,16 @@ fn pool(heap: Global, cards: u32) -> Result<PoolShelf, AllocError> {
     placed::<PoolDrawer>(heap, cards, 9)
 }
 
+// Lists for so many cards, with these places for each and three counts in a stamp.
+fn lists(heap: Global, cards: u32) -> Result<ListShelf, AllocError> {
+    let size = Size {
+        cards,
+        width: 3,
+        places: 4,
+    };
+    ListShelf::reserve(heap, size)
+}
+
 #[test]
 fn on_every_make(rt: HostRuntime) -> Result<(), Fail> {
     let heap = rt.alloc();
@@ -154,5 +169,12 @@ fn on_every_make(rt: HostRuntime) -> Result<(), Fail> {
         row(heap, 1)?,
     );
     assert!(rt; goes(heap, &mut nested)?, "a split of a split");
+    assert!(rt; goes(heap, &mut lists(heap, 3)?)?, "lists");
+    let mut lent = row(heap, 1)?;
+    let mut on_lent = SplitShelf::new(&mut lent, lists(heap, 2)?);
+    assert!(rt;
+        goes(heap, &mut on_lent)?,
+        "a split on a lent row and lists"
+    );
     Ok(())
 }

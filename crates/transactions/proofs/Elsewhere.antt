@@ -74,15 +74,15 @@ module _ (a : Account) (m n : Meaning) (b : State) (w : Watched a m b) (t : ℕ)
       other o q =
           read_refused n (told a t) x (other_shelf b n (a.reads t)) f
           (sym (cond-true (ltb x b.cards)
-              (cond (other_shelf b n (a.reads t)) (Err refusals.OtherShelf) (read_at n (a.drafts t) x (chosen n (a.reads t) x)))
-              (Err refusals.NoCard) q)
+          (cond (other_shelf b n (a.reads t)) (Err refusals.OtherShelf) (read_at n (a.drafts t) x (chosen n (a.reads t) x)))
+          (Err refusals.NoCard) q)
           ∙ open_read o)
 
       unlisted : a.opened t ≡ true → ltb x b.cards ≡ false → f ≡ refusals.NoCard
       unlisted o q =
           sym (err_same (sym (cond-false (ltb x b.cards)
-              (cond (other_shelf b n (a.reads t)) (Err refusals.OtherShelf) (read_at n (a.drafts t) x (chosen n (a.reads t) x)))
-              (Err refusals.NoCard) q)
+          (cond (other_shelf b n (a.reads t)) (Err refusals.OtherShelf) (read_at n (a.drafts t) x (chosen n (a.reads t) x)))
+          (Err refusals.NoCard) q)
           ∙ open_read o))
 
   pub read_elsewhere_watched : (x : ℕ) (f : Refusal) → read_answer b n t x ≡ Err f → Watched a m (after_read b n t x)

@@ -46,7 +46,7 @@ pub commit_refusal : (m : Meaning) (b c : State) (t : ℕ) (r : Result (Unit {0}
 commit_refusal m b c t r e f g q a n w =
     let (l, v) = commit_elsewhere_keeps a n m b t g w (sym e ∙ q) in
     upheld (commit_account a t r) n c
-        (subst (λ z. Watched (commit_account a t z) n c) (sym q) (subst (Watched (commit_account a t (Err g)) n) (sym f) v))
+    (subst (λ z. Watched (commit_account a t z) n c) (sym q) (subst (Watched (commit_account a t (Err g)) n) (sym f) v))
 
 pub open_promised : (m : Meaning) (b c : State) (r : Result ℕ Refusal) → r ≡ open_answer b → Opens b (open_answer b) c → OpenPromise m b r c
 open_promised m b c r e o a w =

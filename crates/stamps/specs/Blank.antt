@@ -1,7 +1,6 @@
 -- What the contracts say of a card that nobody wrote. Assumes nothing.
---     blank       the value of version 0 of every card, as the code's constant has it
+--     blank       the value of version 0 of every card: both words 0
 use Rattle.stamps.specs.declared.value.Value.{Value}
-use Rattle.stamps.specs.declared.value.TheConstants.Value.{BLANK}
 
 abbrev pub blank : Value
-blank = BLANK
+blank = record { first = 0; second = 0 }

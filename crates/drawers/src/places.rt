@@ -1,5 +1,6 @@
 // The places in which a shelf keeps versions above 0.
-ghost use Rattle.std.specs.Prelude.{◌≡◌, IfOk, vec_len};
+ghost use Rattle.std.specs.Prelude.{◌≡◌, ℕ, IfOk, vec_len};
+ghost use Rattle.std.specs.Option.{option_map};
 
 use stamps::{Stamp, TxNo, Value};
 use std::alloc::{AllocError, Global};
@@ -19,7 +20,7 @@ pub struct Places {
 }
 
 impl Places {
-    ghost use Rattle.drawers.specs.Places.{Wrote};
+    ghost use Rattle.drawers.specs.Places.{version_in, version_kept, Wrote};
 
     // Memory for this many places, or that it is wanting.
     pub fn reserve(heap: Global, places: usize) -> Result<Places, AllocError>
@@ -41,6 +42,13 @@ impl Places {
         Places {
             written: Vec::new(alloc),
         }
+    }
+
+    /// What is written at a place; none where there is no such place, which reads as version 0.
+    pub fn at(&self, place: usize) -> Option<&Written>
+        ensures { (w : ℕ) → version_in self.now w place ≡ version_kept w (option_map (λ t. t.now) result) }
+    {
+        self.written.get(place)
     }
 
     // Writes a version into a place; nothing is written where there is no such place.

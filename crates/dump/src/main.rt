@@ -6,10 +6,10 @@ mod counts;
 mod streams;
 mod text;
 
-use std::io;
-
-fn main(rt: HostRuntime) -> io::Result<()> {
-    streams::dump_stream(rt.alloc(), rt.stdin(), &mut rt.stdout())
+// An error is printed by its text, as `anyhow` does.
+fn main(rt: HostRuntime) -> anyhow::Result<()> {
+    streams::dump_stream(rt.alloc(), rt.stdin(), &mut rt.stdout())?;
+    Ok(())
 }
 
 #[cfg(test)]

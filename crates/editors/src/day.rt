@@ -24,18 +24,18 @@ pub(crate) fn day<S: Shelf + Drop>(
 }
 
 // The command of a line that is carried out; to save the journal it is asked for.
-fn command_of(heap: Global, line: &str) -> Result<Option<Command>, AllocError> {
-    Ok(match parse(heap, line)? {
-        Some(Instruction::Ask(command)) => Some(command),
-        Some(Instruction::Save(_)) => Some(Command::Journal),
-        Some(Instruction::Shelf(_) | Instruction::Books(_)) | None => None,
-    })
+fn command_of(line: &str) -> Option<Command> {
+    match parse(line)? {
+        Instruction::Ask(command) => Some(command),
+        Instruction::Save(_) => Some(Command::Journal),
+        Instruction::Shelf(_) | Instruction::Books(_) => None,
+    }
 }
 
 fn script_of(heap: Global, lines: &[String]) -> Result<Vec<Command>, AllocError> {
     let mut script = Vec::new(heap);
     for line in lines {
-        if let Some(command) = command_of(heap, line.as_str())? {
+        if let Some(command) = command_of(line.as_str()) {
             script.push(command)?;
         }
     }
@@ -47,15 +47,16 @@ fn print_all(rt: &HostRuntime, lines: &[String], answers: &[Answer], cards: u32)
     let mut answers = answers.iter();
     for line in lines {
         let text = line.as_str();
-        match parse(rt.alloc(), text)? {
+        match parse(text) {
             Some(Instruction::Ask(_)) => {
                 if let Some(answer) = answers.next() {
                     println!(rt; "{text} = {}", Shown { answer, cards })?;
                 }
             }
             Some(Instruction::Save(file)) => {
+                print!(rt; "{text} = ")?;
                 let saved = save_as(rt, file, answers.next())?;
-                println!(rt; "{text} = {}", if saved { "ok" } else { "not saved" })?;
+                println!(rt; "{}", if saved { "ok" } else { "not saved" })?;
             }
             Some(Instruction::Shelf(_) | Instruction::Books(_)) | None => {
                 println!(rt; "{text} = not understood")?;

@@ -58,7 +58,7 @@ fn find_shelf_and_books(
     let mut held = None;
     for line in lines {
         let text = line.as_str();
-        match (parse(rt.alloc(), text)?, held) {
+        match (parse(text), held) {
             (Some(Instruction::Shelf(make)), _) => held = Some(make_for(rt, text, make)?),
             (Some(Instruction::Books(size)), Some(shelf)) => {
                 println!(rt; "{text} = ok")?;

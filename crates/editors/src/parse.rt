@@ -1,8 +1,8 @@
 // The lines of a script, and how they are read.
+use arrayvec::ArrayVec;
 use scripts::{Make, size_of};
 use sessions::Command;
 use stamps::{CardNo, TxNo, Value, VersionNo};
-use std::alloc::{AllocError, Global};
 
 // How many open places and journal lines the books are to have.
 #[derive(Clone, Copy)]
@@ -21,10 +21,16 @@ pub(crate) enum Instruction<'a> {
     Save(&'a str),
 }
 
+// The most words that a line has which is understood: a split of a split and a row.
+const MOST_WORDS: usize = 15;
+
 // What a line says; none where it says nothing that is understood.
-pub(crate) fn parse(heap: Global, line: &str) -> Result<Option<Instruction<'_>>, AllocError> {
-    let words: Vec<&str> = line.split_whitespace().collect(heap)?;
-    Ok(instruction_of(&words))
+pub(crate) fn parse(line: &str) -> Option<Instruction<'_>> {
+    let mut words = ArrayVec::<&str, MOST_WORDS>::new();
+    for word in line.split_whitespace() {
+        words.try_push(word).ok()?;
+    }
+    instruction_of(words.as_slice())
 }
 
 fn instruction_of<'a>(words: &[&'a str]) -> Option<Instruction<'a>> {

@@ -2,8 +2,9 @@
 #![tactic(auto)]
 
 use reports::judge_stream;
-use std::io;
 
-fn main(rt: HostRuntime) -> io::Result<()> {
-    judge_stream(rt.alloc(), rt.stdin(), &mut rt.stdout())
+// An error is printed by its text, as `anyhow` does.
+fn main(rt: HostRuntime) -> anyhow::Result<()> {
+    judge_stream(rt.alloc(), rt.stdin(), &mut rt.stdout())?;
+    Ok(())
 }

@@ -1,4 +1,5 @@
 // The commands of a session, and how a line is read.
+use arrayvec::ArrayVec;
 use scripts::{Make, size_of};
 use stamps::{CardNo, TxNo, Value, VersionNo};
 use std::alloc::{AllocError, Global};
@@ -50,15 +51,37 @@ impl From<AllocError> for Unread {
     }
 }
 
+// The most words that a command needs, counts aside: the shelf of a split of a split and a row.
+const MOST_WORDS: usize = 15;
+
+// The words before the counts of a version that is put: its name, its card, its two words and its writer.
+const BEFORE_COUNTS: usize = 5;
+
 // The command that a line gives. Words behind those that a command needs are passed over.
 pub fn parse(heap: Global, line: &str) -> Result<Command, Unread> {
-    let words: Vec<&str> = line.split_whitespace().collect(heap)?;
+    let mut words = ArrayVec::<&str, MOST_WORDS>::new();
+    for word in line.split_whitespace() {
+        if words.try_push(word).is_err() {
+            break;
+        }
+    }
     match words.as_slice() {
         ["shelf", make @ ..] => {
             let make = make_of(make).ok_or(Unread::NotUnderstood)?;
             Ok(Command::Shelf(make))
         }
-        ["put", entry @ ..] => Ok(Command::Ask(Question::Put(entry_of(heap, entry)?))),
+        ["put", card, first, second, writer, ..] => {
+            let value = Value {
+                first: first.parse()?,
+                second: second.parse()?,
+            };
+            Ok(Command::Ask(Question::Put(Entry {
+                card: CardNo(card.parse()?),
+                value,
+                writer: TxNo(writer.parse()?),
+                counts: counts_of(heap, line)?,
+            })))
+        }
         question => Ok(Command::Ask(question_of(question)?)),
     }
 }
@@ -112,21 +135,10 @@ fn question_of(words: &[&str]) -> Result<Question, Unread> {
     })
 }
 
-// A version to be put: its card, its two words, its writer, and then its counts.
-fn entry_of(heap: Global, words: &[&str]) -> Result<Entry, Unread> {
-    let [card, first, second, writer, counts @ ..] = words else {
-        return Err(Unread::NotUnderstood);
-    };
-    Ok(Entry {
-        card: CardNo(card.parse()?),
-        value: Value {
-            first: first.parse()?,
-            second: second.parse()?,
-        },
-        writer: TxNo(writer.parse()?),
-        counts: counts
-            .iter()
-            .map(|count| count.parse().map_err(Unread::from))
-            .try_collect(heap)?,
-    })
+// The counts of a version that is put.
+fn counts_of(heap: Global, line: &str) -> Result<Vec<u32>, Unread> {
+    line.split_whitespace()
+        .skip(BEFORE_COUNTS)
+        .map(|count| count.parse().map_err(Unread::from))
+        .try_collect(heap)
 }

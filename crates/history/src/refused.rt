@@ -1,5 +1,9 @@
-ghost use Rattle.std.specs.Prelude.{◌≡◌, Some};
+ghost use Rattle.std.specs.Prelude.{◌≡◌, ◌==◌, Some};
+ghost use Rattle.std.proofs.Common.{rules};
+ghost use Rattle.std.specs.Cmp.Rules.{comparing};
+ghost use Rattle.std.specs.Ordering.{on, eq_of_both};
 ghost use Rattle.history.specs.Texts.{refused as refusal-of, refused_text};
+ghost use Rattle.rules.specs.Rules.{judge_number, judge_place};
 
 use arrayvec::ArrayString;
 use itoa::Buffer;
@@ -7,9 +11,24 @@ use rules::JudgeFault;
 use std::fmt;
 
 // A fault, as a program prints it: the refusal's number, and the record place, counted from 0.
-#[derive(Clone, Copy, PartialEq, Eq, Debug)]
+#[derive(Clone, Copy, Debug)]
 pub struct Refused {
     pub fault: JudgeFault,
+}
+
+// Two are equal exactly where the same is printed of them: faults of two fields of one record are.
+impl PartialEq for Refused {
+    ghost eq = { eq_of_both (on (λ r. judge_number r.fault) ◌==◌) (on (λ r. judge_place r.fault) ◌==◌) };
+
+    ghost laws = { Prim.search (comparing, rules) };
+
+    fn eq(&self, other: &Refused) -> bool {
+        self.fault.number() == other.fault.number() && self.fault.place() == other.fault.place()
+    }
+}
+
+impl Eq for Refused {
+    ghost laws = { Prim.search (comparing, rules) };
 }
 
 impl From<JudgeFault> for Refused {

@@ -7,7 +7,7 @@ pub struct Answer(pub Result<Letters, Cause>);
 
 impl From<Opinion> for Answer {
     fn from(opinion: Opinion) -> Answer {
-        Answer(opinion.map_err(|refusal| refusal.cause))
+        Answer(opinion.0.map_err(|refusal| refusal.cause))
     }
 }
 

@@ -14,8 +14,8 @@ pub fn first_opinion(heap: Global, trial: &Trial) -> Result<Option<Opinion>, All
         return Ok(None);
     }
     Ok(match answer {
-        Ok(verdict) => Some(Ok(letters(verdict))),
-        Err(fault) => refusal(fault).map(Err),
+        Ok(verdict) => Some(Opinion(Ok(letters(verdict)))),
+        Err(fault) => refusal(fault).map(|refusal| Opinion(Err(refusal))),
     })
 }
 

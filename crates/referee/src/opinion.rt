@@ -75,8 +75,9 @@ pub struct Refusal {
     pub place: usize,
 }
 
-// What a judge answers.
-pub type Opinion = Result<Letters, Refusal>;
+/// What a judge answers.
+#[derive(Clone, Copy, PartialEq, Debug)]
+pub struct Opinion(pub Result<Letters, Refusal>);
 
 // The letter for a yes or a no.
 fn letter(holds: bool) -> char {
@@ -89,5 +90,19 @@ impl fmt::Display for Letters {
         let cons = letter(self.cons);
         let wcf = letter(self.wcf);
         write!(f, "ACA={aca} CONS={cons} WCF={wcf}")
+    }
+}
+
+// As program `judge` prints it.
+impl fmt::Display for Opinion {
+    fn fmt<W: fmt::Write>(&self, f: &mut fmt::Formatter<W>) -> fmt::Result {
+        match self.0 {
+            Ok(letters) => write!(f, "{letters}"),
+            Err(refusal) => {
+                let number = refusal.cause.number();
+                let place = refusal.place;
+                write!(f, "REFUSED {number} AT {place}")
+            }
+        }
     }
 }

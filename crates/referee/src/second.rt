@@ -30,8 +30,8 @@ impl From<AllocError> for Stop {
 // What is to be said of a file, where the judge is lent this many marks.
 pub fn second_judge(heap: Global, file: &[u8], marks: usize) -> Result<Opinion, AllocError> {
     match letters_of(heap, file, marks) {
-        Ok(letters) => Ok(Ok(letters)),
-        Err(Stop::Refused(refusal)) => Ok(Err(refusal)),
+        Ok(letters) => Ok(Opinion(Ok(letters))),
+        Err(Stop::Refused(refusal)) => Ok(Opinion(Err(refusal))),
         Err(Stop::NoMemory(error)) => Err(error),
     }
 }

@@ -36,7 +36,11 @@ type Told = Result<Letters, (u32, usize)>;
 
 fn told(heap: Global, file: &[u8], marks: usize) -> Result<Told, Fail> {
     let opinion = second_judge(heap, file, marks)?;
-    Ok(opinion.map_err(|refusal| (refusal.cause.number(), refusal.place)))
+    Ok(
+        opinion
+            .0
+            .map_err(|refusal| (refusal.cause.number(), refusal.place)),
+    )
 }
 
 fn opinion_of(heap: Global, lines: &[Line]) -> Result<Told, Fail> {
@@ -147,5 +151,18 @@ fn refuses_lines(rt: HostRuntime) -> Result<(), Fail> {
         opinion_of(heap, &[done(3), read(2, 4, 0), read(1, 4, 0)])?,
         refused(24, 1)
     );
+    Ok(())
+}
+
+#[test]
+fn opinions_are_printed(rt: HostRuntime) -> Result<(), Fail> {
+    let heap = rt.alloc();
+    let judged = second_judge(heap, &[], 0)?;
+    let refused = second_judge(heap, &[0; 33], 0)?;
+    assert_eq!(rt;
+        format!(in heap; "{judged}")?.as_str(),
+        "ACA=Y CONS=Y WCF=Y"
+    );
+    assert_eq!(rt; format!(in heap; "{refused}")?.as_str(), "REFUSED 21 AT 1");
     Ok(())
 }

@@ -3,6 +3,7 @@
 --     from es k, to es k          where edge k goes from, and where it leads to
 --     picks p n                   the numbers below n with the test p, from the greatest on
 --     behind p r                  the number r, if there is one, and those below it with the test p, from the greatest on
+--     bound n w                   below which number a walk over the numbers below n goes on that stands at w: n before the newest, k behind k
 --     first xs                    the first of the list, if there is one
 --     leaves es n k               edge k goes from node n
 --     link es n k                 the place of the last of the first k edges that goes from n, if there is one
@@ -11,6 +12,8 @@
 --     NewestLinked, OlderLinked the links to the newest and to the next older edges are right
 use Rattle.std.specs.Prelude.{◌≡◌, ℕ, zero, suc, ◌<◌, Bool, cond, List, [], ◌∷◌, map, length, Option, Some, None, ◌==◌, slice_index_or}
 use Rattle.reach.specs.declared.graph.LinkedEdge.{LinkedEdge}
+use Rattle.reach.specs.declared.walk.Position.{Position}
+use Rattle.reach.specs.declared.walk.Position.TheVariants.{Newest, Behind}
 
 abbrev pub places : ℕ
 places = 2048
@@ -28,6 +31,10 @@ picks p (suc n) = cond (p n) (n ∷ picks p n) (picks p n)
 abbrev pub behind : (ℕ → Bool) → Option ℕ → List ℕ
 behind p None = []
 behind p (Some k) = k ∷ picks p k
+
+abbrev pub bound : ℕ → Position → ℕ
+bound n Newest = n
+bound n (Behind k) = k
 
 abbrev pub first : List ℕ → Option ℕ
 first [] = None

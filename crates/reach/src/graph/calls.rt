@@ -1,5 +1,5 @@
 ghost use Rattle.std.specs.Prelude.{◌≡◌, ◌<◌, [], ◌∷◌, ◌++◌, length, if◌then◌else◌};
-ghost use Rattle.reach.specs.Links.{places, leaves, picks, behind};
+ghost use Rattle.reach.specs.Links.{places, leaves, picks, bound};
 ghost use Rattle.reach.specs.Paths.{edges, taken, Edge, Reached, marks_from};
 ghost use Rattle.reach.specs.Searches.{waiting, Room, Found, Closed, Clear, Listed};
 
@@ -42,7 +42,7 @@ impl Graph {
 
     // The places of the edges that go from a node, newest first.
     pub fn edges_from(&self, node: usize) -> Places<'_, Graph>
-        ensures { behind (leaves (edges result.walk.now) result.node) result.next ≡ picks (leaves (edges self.now) node) (length (edges self.now)) }
+        ensures { picks (leaves (edges result.walk.now) result.node) (bound (length (edges result.walk.now)) result.position) ≡ picks (leaves (edges self.now) node) (length (edges self.now)) }
     {
         Places::from_node(self, node)
     }

@@ -1,5 +1,5 @@
 use Rattle.std.proofs.Common.{◌&&◌, eqb, length}
-use Rattle.reach.specs.Links.{behind}
+use Rattle.reach.specs.Links.{picks, bound}
 use Rattle.rules.specs.Rules.{is_writ}
 use Rattle.digest.specs.Entries.{at}
 use Rattle.digest.proofs.LinkLaws.{Ahead}
@@ -9,4 +9,4 @@ use Rattle.answers.proofs.listed.Listed.lost.Given as goal
 abbrev pub invariant-loop-place : goal.invariant-loop-place
 invariant-loop-place g l =
     (goal.iterator-loop-place g).can_next l.place-iterator × (goal.iterator-loop-place g).is_finite l.place-iterator
-    × Ahead (g.W.Walk.comes l.self.own.now) l.owner (λ j. is_writ (at l.self.entries.now j).kind && eqb (at l.self.entries.now j).owner l.owner && clashes l.self.entries.now l.known.dones.now l.known.forward.now l.known.backward.now j) (length l.self.entries.now) (behind (g.W.Walk.comes l.place-iterator.walk.now l.place-iterator.node) l.place-iterator.next)
+    × Ahead (g.W.Walk.comes l.self.own.now) l.owner (λ j. is_writ (at l.self.entries.now j).kind && eqb (at l.self.entries.now j).owner l.owner && clashes l.self.entries.now l.known.dones.now l.known.forward.now l.known.backward.now j) (length l.self.entries.now) (picks (g.W.Walk.comes l.place-iterator.walk.now l.place-iterator.node) (bound (g.W.Walk.count l.place-iterator.walk.now) l.place-iterator.position))

@@ -3,8 +3,8 @@ use Rattle.verdicts.specs.declared.verdict.Verdict.{Verdict}
 use Rattle.reach.specs.Paths.{edges, Marked}
 use Rattle.reach.specs.Searches.{waiting, Clear}
 use Rattle.reach.proofs.SearchLaws.{none_marked}
-use Rattle.answers.specs.Questions.{Snapshot, Snapshots, Conflict, Conflicts}
-use Rattle.answers.proofs.EachLaws.{each_more, each_skip}
+use Rattle.answers.specs.Questions.{stale, Snapshot, Snapshots, Conflict, Conflicts}
+use Rattle.answers.proofs.EachLaws.{each_more, each_told, each_skip}
 use Rattle.answers.proofs.listed.Listed.verdict.Goals as goal
 use Rattle.answers.proofs.listed.Listed.verdict.Goals.{then-entry-owner, else-entry-owner}
 
@@ -36,13 +36,14 @@ loop-owner-preserved g c =
       | then-entry-owner w ↦
           let ms = w.search.new.marks in
           let long : m ≤ length ms = omega (arith, w.search.auto.marks, inv.marks, c.fill.ensures.len, c.requires) in
-          let snap : Snapshot es gs m n w.stale.result = record { marks = ms; reached = w.search.ensures.reached; long = long; tells = sym w.stale.ensures } in
-          let conf : Conflict es ds gs hs m n w.conflicting.result = record { forward = ms; reached = w.search.ensures.reached; long = long; asked = w.conflicting.ensures } in
+          let snap : Snapshot es gs m n (stale es ms n) = record { marks = ms; reached = w.search.ensures.reached; long = long; tells = refl } in
           record {
             aca = ap (λ (v : Verdict). v.aca) w.verdict-is ∙ inv.aca;
-            cons = subst (λ (b : Bool). Snapshots es gs m (n + 1) b) (sym (ap (λ (v : Verdict). v.cons) w.verdict-is)) (each_more es (Snapshot es gs m) n _ _ lt w.if-entry-owner.true snap inv.cons);
-            wcf = subst (λ (b : Bool). Conflicts es ds gs hs m (n + 1) b) (sym (ap (λ (v : Verdict). v.wcf) w.verdict-is)) (each_more es (Conflict es ds gs hs m) n _ _ lt w.if-entry-owner.true conf inv.wcf);
-            back = ap length w.back-is ∙ w.conflicting.auto.backward ∙ inv.back;
+            cons = subst (λ (b : Bool). Snapshots es gs m (n + 1) b) (sym (ap (λ (v : Verdict). v.cons) w.verdict-is ∙ w.stays_consistent.ensures)) (each_more es (Snapshot es gs m) n _ _ lt w.if-entry-owner.true snap inv.cons);
+            wcf = subst (λ (b : Bool). Conflicts es ds gs hs m (n + 1) b) (sym (ap (λ (v : Verdict). v.wcf) w.verdict-is))
+                (each_told es (Conflict es ds gs hs m) n _ w.stays_free.result lt w.if-entry-owner.true
+                (λ e. record { forward = ms; reached = w.search.ensures.reached; long = long; asked = w.stays_free.ensures.asked e }) w.stays_free.ensures.kept inv.wcf);
+            back = ap length w.back-is ∙ w.stays_free.auto.backward ∙ inv.back;
             marks = c.if-entry-owner.auto.marks ∙ inv.marks;
             clear = subst (λ (xs : List ℕ). Clear xs) (sym w.marks-is) w.clear.ensures.clear;
             empty = ap waiting w.queue-is ∙ w.clear.ensures.empty;
